@@ -1,0 +1,5 @@
+pub mod Inverses
+pub mod Substitution
+pub mod Linear
+pub mod Mixing
+pub mod Rounds

@@ -1,0 +1,15 @@
+use mathlib.Core.Path.{refl, sym, _∙_}
+use lib.ListN.{getD}
+use Rattle.octets.proofs.Tables.{table-tested, table-eq}
+use Rattle.aes.specs.Substitution.{unaffine, invSub}
+use Rattle.aes.proofs.Inverses.{inverses}
+use Rattle.aes.proofs.Substitution.{invSub-at}
+use Rattle.aes.proofs.inv_sbox.entries.Statement.{statement}
+use Rattle.aes.proofs.inv_sbox.entries.Tie as tie
+
+returns : tie.Need-returns
+unfolding inverses unaffine
+returns c = table-tested (λ k. getD inverses (unaffine k) 0) 256 _ refl tt ∙ table-eq _ invSub 256 (λ k h. sym (invSub-at k h))
+
+pub entries-spec : {M : Type 1} → statement M
+entries-spec = tie.close (tie.spec returns)

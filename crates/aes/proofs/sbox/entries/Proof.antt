@@ -1,0 +1,15 @@
+use mathlib.Core.Path.{refl, sym, _∙_}
+use lib.ListN.{getD}
+use Rattle.octets.proofs.Tables.{table-tested, table-eq}
+use Rattle.aes.specs.Substitution.{affine, sub}
+use Rattle.aes.proofs.Inverses.{inverses}
+use Rattle.aes.proofs.Substitution.{sub-at}
+use Rattle.aes.proofs.sbox.entries.Statement.{statement}
+use Rattle.aes.proofs.sbox.entries.Tie as tie
+
+returns : tie.Need-returns
+unfolding inverses affine
+returns c = table-tested (λ k. affine (getD inverses k 0)) 256 _ refl tt ∙ table-eq _ sub 256 (λ k h. sym (sub-at k h))
+
+pub entries-spec : {M : Type 1} → statement M
+entries-spec = tie.close (tie.spec returns)

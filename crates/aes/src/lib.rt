@@ -1,0 +1,115 @@
+// The pieces of AES (FIPS 197) that the crate takes from `aes::hazmat`: mixing, and a round each way.
+ghost use mathlib.Core.Path.{_≡_};
+ghost use Prim.Native.Nat.{_*_, _%_, _<_};
+ghost use lib.Bits.{bitXor};
+ghost use lib.ListN.{getD};
+ghost use Rattle.octets.specs.Octets.{table, eachByte};
+ghost use Rattle.aes.specs.Field.{double};
+ghost use Rattle.aes.specs.Substitution.{sub, invSub};
+ghost use Rattle.aes.specs.Round.{shiftRows, invShiftRows, mixByte, mixColumns, invMixColumns, round, equivInvRound};
+
+pub mod inv_sbox;
+pub mod sbox;
+
+// xtimes: the bits move up by one place, and the bit that falls out counts as 0x1B.
+pub fn double(x: u8) -> u8
+    ensures { λ r. ⌜ r ≡ double x ⌝ }
+{
+    if x < 0x80 { x << 1 } else { (x << 1) ^ 0x1b }
+}
+
+// Each byte replaced by its entry of a table: SubBytes by the S-box, InvSubBytes by the inverse one.
+fn substitute(entries: &[u8; 256], block: [u8; 16]) -> [u8; 16]
+    ensures { λ r. ⌜ r ≡ eachByte (λ x. getD (now (entries .entry)) x 0) block ⌝ }
+{
+    let mut out = [0u8; 16];
+    for i in 0..16 {
+        out[i] = entries[block[i] as usize];
+    }
+    out
+}
+
+// Byte i comes from place i * step mod 16: a turn of the rows, by a step of 5 to the left and of 13 to the right.
+fn turn_rows(block: [u8; 16], step: usize) -> [u8; 16]
+    requires { ⌜ step < 16 ⌝ }
+    ensures { λ r. ⌜ r ≡ table (λ i. getD block (i * step % 16) 0) 16 ⌝ }
+{
+    let mut out = [0u8; 16];
+    for i in 0..16 {
+        out[i] = block[i * step % 16];
+    }
+    out
+}
+
+fn shift_rows(block: [u8; 16]) -> [u8; 16]
+    ensures { λ r. ⌜ r ≡ shiftRows block ⌝ }
+{
+    turn_rows(block, 5)
+}
+
+fn inv_shift_rows(block: [u8; 16]) -> [u8; 16]
+    ensures { λ r. ⌜ r ≡ invShiftRows block ⌝ }
+{
+    turn_rows(block, 13)
+}
+
+// The first byte of the column a b c d, mixed.
+fn mix_byte(a: u8, b: u8, c: u8, d: u8) -> u8
+    ensures { λ r. ⌜ r ≡ mixByte a b c d ⌝ }
+{
+    double(a ^ b) ^ b ^ c ^ d
+}
+
+pub fn mix_columns(block: [u8; 16]) -> [u8; 16]
+    ensures { λ r. ⌜ r ≡ mixColumns block ⌝ }
+{
+    let mut out = [0u8; 16];
+    for i in 0..16 {
+        let top = 4 * (i / 4);
+        out[i] = mix_byte(
+            block[i % 4 + top],
+            block[(i + 1) % 4 + top],
+            block[(i + 2) % 4 + top],
+            block[(i + 3) % 4 + top],
+        );
+    }
+    out
+}
+
+// a and the byte two places from it in its column: a with four times their sum XORed in.
+fn fold_byte(a: u8, c: u8) -> u8
+    ensures { λ r. ⌜ r ≡ bitXor a (double (double (bitXor a c))) ⌝ }
+{
+    a ^ double(double(a ^ c))
+}
+
+// The rule 0E, 0B, 0D, 09 is the rule 2, 3, 1, 1 on the folded columns: it takes doublings alone.
+pub fn inv_mix_columns(block: [u8; 16]) -> [u8; 16]
+    ensures { λ r. ⌜ r ≡ invMixColumns block ⌝ }
+{
+    let mut folded = [0u8; 16];
+    for i in 0..16 {
+        let top = 4 * (i / 4);
+        folded[i] = fold_byte(block[i % 4 + top], block[(i + 2) % 4 + top]);
+    }
+    mix_columns(folded)
+}
+
+// A round, the last one too: Deoxys-BC mixes in every round.
+pub fn cipher_round(entries: &[u8; 256], block: [u8; 16], key: [u8; 16]) -> [u8; 16]
+    requires { ⌜ now entries ≡ table sub 256 ⌝ }
+    ensures { λ r. ⌜ r ≡ round block key ⌝ }
+{
+    octets::xor_block(mix_columns(shift_rows(substitute(entries, block))), key)
+}
+
+// A round of the equivalent inverse cipher: the key is one that `inv_mix_columns` was applied to.
+pub fn equiv_inv_cipher_round(entries: &[u8; 256], block: [u8; 16], key: [u8; 16]) -> [u8; 16]
+    requires { ⌜ now entries ≡ table invSub 256 ⌝ }
+    ensures { λ r. ⌜ r ≡ equivInvRound block key ⌝ }
+{
+    octets::xor_block(
+        inv_mix_columns(inv_shift_rows(substitute(entries, block))),
+        key,
+    )
+}

@@ -1,0 +1,3 @@
+pub mod Tweakeys
+pub mod Flat
+pub mod Rounds

@@ -1,0 +1,28 @@
+-- Deoxys-BC: document 01, "Tweakey", its last paragraphs; the Deoxys paper (v1.41), section 3.
+-- Assumes nothing.
+use mathlib.Core.List.{List}
+use Prim.Native.Nat.{ℕ, zero, suc, _+_}
+use Rattle.octets.specs.Octets.{_⊕_, blockAt}
+use Rattle.aes.specs.Round.{round, invRound}
+use Rattle.deoxys_bc.specs.Tweakey.{tweakAfter}
+use Rattle.deoxys_bc.specs.declared.Subkeys.{Subkeys}
+
+-- key part i XOR the tweak after i uses of h
+unfoldable pub roundKey : Subkeys → List ℕ → ℕ → List ℕ
+roundKey k tweak i = blockAt (k .bytes) i ⊕ tweakAfter i tweak
+
+-- XOR of round key 0, then n rounds with the round keys 1 to n: every round mixes, the last too
+unfoldable pub afterRounds : Subkeys → List ℕ → List ℕ → ℕ → List ℕ
+afterRounds k tweak block zero = block ⊕ roundKey k tweak 0
+afterRounds k tweak block (suc n) = round (afterRounds k tweak block n) (roundKey k tweak (suc n))
+
+-- the same undone, the last round first
+unfoldable pub beforeRounds : Subkeys → List ℕ → List ℕ → ℕ → List ℕ
+beforeRounds k tweak block zero = block ⊕ roundKey k tweak 0
+beforeRounds k tweak block (suc n) = beforeRounds k tweak (invRound block (roundKey k tweak (suc n))) n
+
+unfoldable pub encipher : Subkeys → List ℕ → List ℕ → List ℕ
+encipher k tweak block = afterRounds k tweak block (k .rounds)
+
+unfoldable pub decipher : Subkeys → List ℕ → List ℕ → List ℕ
+decipher k tweak block = beforeRounds k tweak block (k .rounds)

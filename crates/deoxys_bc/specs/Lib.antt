@@ -1,0 +1,2 @@
+pub mod Tweakey
+pub mod Cipher
