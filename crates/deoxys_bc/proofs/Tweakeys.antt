@@ -1,15 +1,16 @@
 -- The schedule's steps keep blocks, the LFSRs undo each other, and a TK3 of zeros adds nothing.
 -- Assumes nothing.
 use mathlib.Core.Path.{_≡_, refl, ap, ap₂, _∙_}
+use mathlib.Core.Bool.{Bool, true, false}
 use mathlib.Core.List.{List, [], _∷_, _++_}
-use Prim.Native.Nat.{ℕ, zero, suc, _+_, _-_, _*_, _<_}
+use Prim.Native.Nat.{ℕ, zero, suc, _+_, _-_, _*_, _≤_, _<_}
 use native.Mathlib.Numerals.{add-one}
 use native.Mathlib.Omega.{arith}
-use lib.Dec.{ltb, ltb→lt}
+use lib.Dec.{eqb, ltb, ltb→lt, lit≤}
 use lib.ListN.{length, getD, take, drop, replicate, length-drop}
 use lib.Seq.{take-all}
 use borrow.Author.Tests.{eq-eqb, ne-eqb}
-use Rattle.octets.specs.Octets.{Bytes, Block, _⊕_, table, eachByte, zeroBlock}
+use Rattle.octets.specs.Octets.{Bytes, Block, pick, _⊕_, table, eachByte, zeroBlock}
 use Rattle.octets.proofs.Xor.{⊕-block, ⊕-length, zero-⊕}
 use Rattle.octets.proofs.Tables.{below, agreed, table-block, each-block}
 use Rattle.deoxys_bc.specs.Tweakey.{places, h, lfsr2, lfsr3, repeated, tk2, tk3, tweakAfter, constantBlock, keyPart, roundsOf, joined, flat, expanded}
@@ -128,3 +129,11 @@ expanded-32 key e =
     let long = ne-eqb (length key) 16 (λ q. omega arith) in
     let rest = take-all 16 (drop 16 key) (simp length-drop (omega arith)) in
     expanded-is key (λ i. tk3 i (take 16 key) ⊕ tk2 i (take 16 (drop 16 key)) ⊕ constantBlock i) 16 (rw long) (λ i. rw (long, rest))
+
+pub rounds-small : (key : List ℕ) → expanded key .rounds ≤ 16
+unfolding expanded
+rounds-small key = either (eqb (length key) 16)
+  where
+    either : (b : Bool) → pick b 14 16 ≤ 16
+    either true = lit≤ tt
+    either false = lit≤ tt

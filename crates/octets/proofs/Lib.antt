@@ -1,3 +1,4 @@
 pub mod Xor
 pub mod Tables
 pub mod Parts
+pub mod Sameness

@@ -6,7 +6,7 @@ use Prim.Native.Nat.{ℕ, zero, suc, _+_, _-_, _*_, _≤_, _<_}
 use native.Mathlib.Nat.{le-of-suc-le-suc, not-suc-le-zero, suc-inj, suc-ne-zero, add-zero, sub-zero, zero-sub, suc-sub-suc}
 use native.Mathlib.Numerals.{add-one}
 use native.Mathlib.Omega.{arith}
-use lib.ListN.{length, take, drop, getD, set, replicate, length-append, length-drop, length-replicate, take-append-drop, drop-of-length-le, List·getD-append}
+use lib.ListN.{length, take, drop, getD, set, replicate, length-append, length-drop, length-replicate, take-append-drop, drop-of-length-le, List·getD-append, getD-replicate}
 use lib.Seq.{take-at, drop-at, take-all, length-take-le, getD-append-add, getD-take, getD-drop, set-at, drop-drop}
 use borrow.Rule.Slice.PartMut.{putMid}
 use Rattle.octets.specs.Octets.{Bytes, Block, table, padded}
@@ -120,3 +120,9 @@ padded-is s h =
 pub padded-length : (s : List ℕ) → length s < 16 → length (padded s) ≡ 16
 unfolding padded
 padded-length s h = simp (length-append, length-replicate) (omega arith)
+
+pub zeros-length : (n : ℕ) → length (replicate {A = ℕ} n 0) ≡ n
+zeros-length n = length-replicate n 0
+
+pub zeros-at : (n i : ℕ) → i < n → _≡_ {A = ℕ} 0 (getD (replicate n 0) i 0)
+zeros-at n i h = sym (getD-replicate n i 0 0 h)

@@ -47,9 +47,9 @@ is-table f n l e h =
 pub table-eq : (f g : ℕ → ℕ) (n : ℕ) → ((k : ℕ) → k < n → f k ≡ g k) → table f n ≡ table g n
 table-eq f g n h = is-table g n (table f n) (table-length f n) (λ k b. table-at f n k b ∙ h k b)
 
--- sixteen bytes, spelt out
-pub spelt : (s : List ℕ) → length s ≡ 16 → table (λ i. getD s i 0) 16 ≡ s
-spelt s e = sym (is-table (λ i. getD s i 0) 16 s e (λ k h. refl))
+-- a list, spelt out
+pub spelt : (s : List ℕ) {n : ℕ} → length s ≡ n → table (λ i. getD s i 0) n ≡ s
+spelt s {n} e = sym (is-table (λ i. getD s i 0) n s e (λ k h. refl))
 
 lt-or-ge : (i n : ℕ) → (i < n) ⊎ (n ≤ i)
 lt-or-ge i zero = inr zero-le

@@ -5,6 +5,7 @@ use mathlib.Core.Bool.{Bool, true, false}
 use mathlib.Core.List.{List, [], _∷_, _++_}
 use Prim.Native.Nat.{ℕ, zero, suc, _+_, _-_, _*_, _/_, _%_, _^_, _<_}
 use lib.Bits.{bitXor}
+use lib.Dec.{eqb}
 use lib.ListN.{length, getD, take, drop, replicate}
 
 -- every element is a byte (past the end of a list stands 0)
@@ -58,3 +59,10 @@ padded s = s ++ (0x80 ∷ replicate (15 - length s) 0)
 unfoldable pub bigEndian : ℕ → ℕ → List ℕ
 bigEndian zero n = []
 bigEndian (suc k) n = n / 256 ^ k % 256 ∷ bigEndian k n
+
+-- whether two texts are the same, to the last byte
+unfoldable pub same : List ℕ → List ℕ → Bool
+same [] [] = true
+same [] (y ∷ t) = false
+same (x ∷ s) [] = false
+same (x ∷ s) (y ∷ t) = pick (eqb x y) (same s t) false

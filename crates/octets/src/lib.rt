@@ -2,8 +2,8 @@
 ghost use mathlib.Core.Path.{_≡_};
 ghost use mathlib.Core.List.{_++_};
 ghost use Prim.Native.Nat.{_+_, _≤_, _<_};
-ghost use lib.ListN.{length, take, drop};
-ghost use Rattle.octets.specs.Octets.{_⊕_, padded};
+ghost use lib.ListN.{length, take, drop, replicate};
+ghost use Rattle.octets.specs.Octets.{_⊕_, padded, same};
 
 // The block that starts at a place of the slice.
 pub fn read_block(s: &[u8], at: usize) -> [u8; 16]
@@ -58,4 +58,24 @@ pub fn pad(part: &[u8]) -> [u8; 16]
     }
     block[part.len()] = 0x80;
     block
+}
+
+// Whether two blocks are the same. Every byte is compared, whatever the first ones show; nothing is claimed about time.
+pub fn same_block(a: [u8; 16], b: [u8; 16]) -> bool
+    ensures { λ r. ⌜ r ≡ same a b ⌝ }
+{
+    let mut difference = 0u8;
+    for i in 0..16 {
+        difference = difference | (a[i] ^ b[i]);
+    }
+    difference == 0
+}
+
+// Every byte zero.
+pub fn clear(s: &mut [u8])
+    ensures { λ _. ⌜ now (s .exit) ≡ replicate (length (now (s .entry))) 0 ⌝ }
+{
+    for i in 0..s.len() {
+        s[i] = 0;
+    }
 }

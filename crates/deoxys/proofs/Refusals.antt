@@ -1,0 +1,102 @@
+-- The refusals in their order, each as the test that gives it leaves it; and what holds where none applies.
+-- Assumes nothing.
+use mathlib.Core.Path.{_≡_, refl, sym, _∙_}
+use mathlib.Core.Bool.{Bool, true, false, not}
+use mathlib.Core.Logic.{_⊎_, inl, inr}
+use Prim.Native.Nat.{ℕ, zero, suc, _≤_, _<_}
+use native.Mathlib.Nat.{suc-ne-zero}
+use native.Mathlib.Omega.{arith}
+use lib.Dec.{eqb, leb, ltb}
+use borrow.Author.Tests.{eq-eqb, ne-eqb, lt-ltb, le-ltb, le-leb, lt-leb, eqb-true, ltb-true, ltb-false, leb-true, not-false}
+use Rattle.octets.specs.Octets.{pick}
+use Rattle.deoxys.specs.Suites.{isSuite, isDeoxysI, keyLength, nonceLength, limit, refusal}
+
+-- ---- what the code's tests show
+
+module _ (suite key nonce ad text : ℕ) where
+  pub no-suite-0 : suite ≡ 0 → 1 ≡ refusal suite key nonce ad text
+  unfolding refusal
+  no-suite-0 h = rw h
+
+  module _ (h₀ : suite ≡ 0 → ⊥) where
+    positive : 0 < suite
+    positive = nonzero suite h₀
+      where
+        nonzero : (n : ℕ) → (n ≡ 0 → ⊥) → 0 < n
+        nonzero zero h = absurd (h refl)
+        nonzero (suc n) h = omega arith
+
+    pub no-suite : 4 < suite → 1 ≡ refusal suite key nonce ad text
+    unfolding refusal
+    no-suite h = simp (lt-ltb _ _ positive, lt-leb _ _ h)
+
+    module _ (h₁ : suite ≤ 4) where
+      pub wrong-key : (key ≡ keyLength suite → ⊥) → 2 ≡ refusal suite key nonce ad text
+      unfolding refusal
+      wrong-key h = simp (lt-ltb _ _ positive, le-leb _ _ h₁, ne-eqb _ _ h)
+
+      module _ (h₂ : key ≡ keyLength suite) where
+        pub wrong-nonce : (nonce ≡ nonceLength suite → ⊥) → 3 ≡ refusal suite key nonce ad text
+        unfolding refusal
+        wrong-nonce h = simp (lt-ltb _ _ positive, le-leb _ _ h₁, eq-eqb _ _ h₂, ne-eqb _ _ h)
+
+        module _ (h₃ : nonce ≡ nonceLength suite) where
+          pub long-data : 1048576 < ad → 4 ≡ refusal suite key nonce ad text
+          unfolding refusal
+          long-data h = simp (lt-ltb _ _ positive, le-leb _ _ h₁, eq-eqb _ _ h₂, eq-eqb _ _ h₃, lt-ltb _ _ h)
+
+          module _ (h₄ : ad ≤ 1048576) where
+            pub long-text : 1048576 < text → 5 ≡ refusal suite key nonce ad text
+            unfolding refusal
+            long-text h = simp (lt-ltb _ _ positive, le-leb _ _ h₁, eq-eqb _ _ h₂, eq-eqb _ _ h₃, le-ltb _ _ h₄, lt-ltb _ _ h)
+
+            pub none : text ≤ 1048576 → 0 ≡ refusal suite key nonce ad text
+            unfolding refusal
+            none h = simp (lt-ltb _ _ positive, le-leb _ _ h₁, eq-eqb _ _ h₂, eq-eqb _ _ h₃, le-ltb _ _ h₄, le-ltb _ _ h)
+
+-- ---- what holds where nothing is refused
+
+pub record Good (suite key nonce ad text : ℕ) : Type 0 where
+  pub known : isSuite suite ≡ true
+  pub key-fits : key ≡ keyLength suite
+  pub nonce-fits : nonce ≡ nonceLength suite
+  pub ad-fits : ad ≤ 1048576
+  pub text-fits : text ≤ 1048576
+
+passed : (b : Bool) (n x : ℕ) → pick b (suc n) x ≡ 0 → (b ≡ false) × (x ≡ 0)
+passed true n x e = absurd (suc-ne-zero n e)
+passed false n x e = (refl, e)
+
+pub good : (suite key nonce ad text : ℕ) → refusal suite key nonce ad text ≡ 0 → Good suite key nonce ad text
+unfolding refusal
+good suite key nonce ad text e =
+    let p₁ = passed _ _ _ e in
+    let p₂ = passed _ _ _ (p₁ .1) in
+    let p₃ = passed _ _ _ (p₂ .1) in
+    let p₄ = passed _ _ _ (p₃ .1) in
+    let p₅ = passed _ _ _ (p₄ .1) in
+    record {
+      known = not-false _ (p₁ .0);
+      key-fits = eqb-true _ _ (not-false _ (p₂ .0));
+      nonce-fits = eqb-true _ _ (not-false _ (p₃ .0));
+      ad-fits = ltb-false _ _ (p₄ .0);
+      text-fits = ltb-false _ _ (p₅ .0);
+    }
+
+key-sized : (suite : ℕ) → (keyLength suite ≡ 16) ⊎ (keyLength suite ≡ 32)
+key-sized suite = either (eqb suite 1) (eqb suite 3)
+  where
+    either : (a b : Bool) → (_≡_ {A = ℕ} (pick a 16 (pick b 16 32)) 16) ⊎ (_≡_ {A = ℕ} (pick a 16 (pick b 16 32)) 32)
+    either true b = inl refl
+    either false true = inl refl
+    either false false = inr refl
+
+module _ {suite key nonce ad text : ℕ} (g : Good suite key nonce ad text) where
+  pub key-is : (key ≡ 16) ⊎ (key ≡ 32)
+  key-is = rw (g .key-fits) (key-sized suite)
+
+  pub nonce-i : suite ≤ 2 → nonce ≡ 8
+  nonce-i h = g .nonce-fits ∙ simp (le-leb _ _ h)
+
+  pub nonce-ii : 2 < suite → nonce ≡ 15
+  nonce-ii h = g .nonce-fits ∙ simp (lt-leb _ _ h)

@@ -1,0 +1,62 @@
+use mathlib.Core.Path.{sym, _∙_}
+use native.Mathlib.Omega.{arith}
+use lib.Seq.{take-all}
+use borrow.Author.Needs.{needs}
+use Rattle.deoxys.proofs.Answers.{open-refused, open-tag-length, open-done, open-wrong-tag}
+use Rattle.deoxys.proofs.open.Statement.{statement}
+use Rattle.deoxys.proofs.open.Tie as tie
+
+refusal-requires : tie.Need-refusal-requires
+refusal-requires c κs = search needs
+
+returns : tie.Need-returns
+returns c = rw (c .before .refusal .ensures) (open-refused _ _ _ _ _ _ (λ e. c .if1 .taken (c .before .refusal .ensures ∙ e)))
+
+returns-2 : tie.Need-returns-2
+returns-2 c = open-tag-length _ _ _ _ _ _ (sym (c .before .before .refusal .ensures) ∙ c .before .if1 .left) (c .if2 .taken)
+
+read-block-requires : tie.Need-read-block-requires
+read-block-requires c κs = search needs
+
+recover-requires : tie.Need-recover-requires
+recover-requires c κs = sym (c .before .before .before .before .refusal .ensures) ∙ c .before .before .before .if1 .left
+
+same-block-requires : tie.Need-same-block-requires
+same-block-requires c κs = search needs
+
+same-length : tie.Need-same-length
+same-length c = search needs
+
+returns-3 : tie.Need-returns-3
+returns-3 c = let whole = c .before .before .before .before .before .before .before .read-block .ensures ∙ take-all 16 (c .before .before .before .before .before .before .before .before .before .before .before .before .before .before .before .before .args .tag .now) (omega arith) in
+    let right = rw (c .before .before .before .before .before .recover .ensures .0, whole) at (sym (c .before .same-block .ensures) ∙ c .if3 .taken) in
+    rw (c .before .before .before .before .before .recover .ensures .1, c .before .before .before .before .before .recover .ensures .0, whole)
+    (open-done _ _ _ _ _ _ (sym (c .before .before .before .before .before .before .before .before .before .before .refusal .ensures) ∙ c .before .before .before .before .before .before .before .before .before .if1 .left) (c .before .before .before .before .before .before .before .before .if2 .left) right)
+
+clear-requires : tie.Need-clear-requires
+clear-requires c κs = search needs
+
+same-length-2 : tie.Need-same-length-2
+same-length-2 c = search needs
+
+returns-4 : tie.Need-returns-4
+returns-4 c = let whole = c .before .before .before .before .before .before .before .before .before .before .before .read-block .ensures ∙ take-all 16 (c .before .before .before .before .before .before .before .before .before .before .before .before .before .before .before .before .before .before .before .before .args .tag .now) (omega arith) in
+    let wrong = rw (c .before .before .before .before .before .before .before .before .before .recover .ensures .0, whole) at (sym (c .before .before .before .before .before .same-block .ensures) ∙ c .before .before .before .before .if3 .left) in
+    rw (c .before .before .clear .ensures, c .before .before .before .before .before .before .before .before .before .recover .kept .1 .1 .1 .1 .0, c .before .before .before .before .before .before .before .before .before .recover .ensures .0, whole)
+    (open-wrong-tag _ _ _ _ _ _ (sym (c .before .before .before .before .before .before .before .before .before .before .before .before .before .before .refusal .ensures) ∙ c .before .before .before .before .before .before .before .before .before .before .before .before .before .if1 .left) (c .before .before .before .before .before .before .before .before .before .before .before .before .if2 .left) wrong)
+
+pub open-spec : {M : Type 1} → statement M
+open-spec =
+    tie.close
+    (tie.spec
+    refusal-requires
+    returns
+    returns-2
+    read-block-requires
+    recover-requires
+    same-block-requires
+    same-length
+    returns-3
+    clear-requires
+    same-length-2
+    returns-4)

@@ -1,0 +1,43 @@
+use borrow.Author.Needs.{needs}
+use Rattle.deoxys_bc.proofs.Tweakeys.{rounds-small}
+use Rattle.deoxys.proofs.Refusals.{good, key-is, nonce-i, nonce-ii}
+use Rattle.deoxys.proofs.Answers.{sealed-i, sealed-ii, seal-done}
+use Rattle.deoxys.proofs.seal_good.Statement.{statement}
+use Rattle.deoxys.proofs.seal_good.Tie as tie
+
+precompute-subkeys-requires : tie.Need-precompute-subkeys-requires
+precompute-subkeys-requires c κs = key-is (good _ _ _ _ _ (c .before .before .before .before .pre))
+
+seal-requires : tie.Need-seal-requires
+seal-requires c κs = let g = good _ _ _ _ _ (c .before .before .before .before .before .before .before .pre) in
+    (rw (c .before .before .precompute-subkeys .ensures) (rounds-small _), nonce-i g (c .before .if1 .taken), g .ad-fits, g .text-fits)
+
+same-length : tie.Need-same-length
+same-length c = search needs
+
+returns : tie.Need-returns
+returns c = rw (c .before .before .before .seal .ensures .1, c .before .before .before .seal .ensures .0, c .before .before .before .before .before .before .precompute-subkeys .ensures, sealed-i _ _ _ _ _ (c .before .before .before .before .before .if1 .taken))
+    (seal-done _ _ _ _ _ (c .before .before .before .before .before .before .before .before .before .before .before .pre))
+
+seal-requires-2 : tie.Need-seal-requires-2
+seal-requires-2 c κs = let g = good _ _ _ _ _ (c .before .before .before .before .before .before .before .pre) in
+    (rw (c .before .before .precompute-subkeys .ensures) (rounds-small _), nonce-ii g (c .before .if1 .left), g .ad-fits, g .text-fits)
+
+same-length-2 : tie.Need-same-length-2
+same-length-2 c = search needs
+
+returns-2 : tie.Need-returns-2
+returns-2 c = rw (c .before .before .before .seal2 .ensures .1, c .before .before .before .seal2 .ensures .0, c .before .before .before .before .before .before .precompute-subkeys .ensures, sealed-ii _ _ _ _ _ (c .before .before .before .before .before .if1 .left))
+    (seal-done _ _ _ _ _ (c .before .before .before .before .before .before .before .before .before .before .before .pre))
+
+pub seal-good-spec : {M : Type 1} → statement M
+seal-good-spec =
+    tie.close
+    (tie.spec
+    precompute-subkeys-requires
+    seal-requires
+    same-length
+    returns
+    seal-requires-2
+    same-length-2
+    returns-2)

@@ -1,0 +1,7 @@
+pub mod Packing
+pub mod Authenticating
+pub mod Checksums
+pub mod Message
+pub mod Keystream
+pub mod Counts
+pub mod Outcomes

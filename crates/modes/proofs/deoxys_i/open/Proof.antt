@@ -1,0 +1,47 @@
+use mathlib.Core.Bool.{true}
+use native.Mathlib.Omega.{arith}
+use borrow.Author.Needs.{needs}
+use Rattle.modes.specs.DeoxysI.{direction, openI}
+use Rattle.modes.proofs.Counts.{auth-count, crypt-count}
+use Rattle.modes.proofs.Outcomes.{opened-i}
+use Rattle.modes.proofs.deoxys_i.open.Statement.{statement}
+use Rattle.modes.proofs.deoxys_i.open.Tie as tie
+
+compute-ad-tag-requires : tie.Need-compute-ad-tag-requires
+compute-ad-tag-requires c κs = search needs
+
+crypt-message-requires : tie.Need-crypt-message-requires
+crypt-message-requires c κs = let a = c .before .before .before .before .before .before .args in
+    let ad = auth-count (a .k) 32 96 (a .ad .now) in
+    rw (c .before .before .compute-ad-tag .ensures) (search needs, search needs, omega arith)
+
+checksum-requires : tie.Need-checksum-requires
+checksum-requires c κs = search needs
+
+tag-requires : tie.Need-tag-requires
+tag-requires c κs = let a = c .before .before .before .before .before .before .before .before .before .before .before .before .args in
+    let ad = auth-count (a .k) 32 96 (a .ad .now) in
+    let message = crypt-count (direction true (a .k)) (a .k) (a .nonce .now) (a .buffer .now) in
+    rw (c .before .before .before .before .before .crypt-message .ensures .0, c .before .before .before .before .before .before .before .before .compute-ad-tag .ensures) (search needs, search needs, search needs, omega arith)
+
+same-length : tie.Need-same-length
+same-length c = search needs
+
+returns : tie.Need-returns
+unfolding openI
+returns c = let a = c .before .before .before .before .before .before .before .before .before .before .before .before .before .args in (
+  rw (c .tag .ensures, c .before .before .checksum .ensures, c .before .before .before .before .before .before .crypt-message .ensures .1, c .before .before .before .before .before .before .crypt-message .ensures .0, c .before .before .before .before .before .before .before .before .before .compute-ad-tag .ensures)
+      (opened-i (a .k) (a .nonce .now) (a .ad .now) (a .buffer .now)),
+  c .before .before .before .before .before .before .crypt-message .ensures .1,
+)
+
+pub open-spec : {M : Type 1} → statement M
+open-spec =
+    tie.close
+    (tie.spec
+    compute-ad-tag-requires
+    crypt-message-requires
+    checksum-requires
+    tag-requires
+    same-length
+    returns)

@@ -1,0 +1,117 @@
+use mathlib.Core.Path.{_≡_, refl}
+use Prim.Native.Nat.{_+_, _-_, _/_, _≤_}
+use native.Mathlib.Omega.{arith}
+use lib.ListN.{length}
+use borrow.Author.Needs.{needs}
+use Rattle.octets.specs.Octets.{_⊕_}
+use Rattle.octets.proofs.Parts.{rest-is, rest-put}
+use Rattle.modes.specs.Rows.{blocks}
+use Rattle.modes.specs.DeoxysII.{keystreamFrom, given}
+use Rattle.modes.proofs.Counts.{counted}
+use Rattle.modes.proofs.Keystream.{Streaming, stream-start, stream-turn, stream-part, stream-none}
+use Rattle.modes.proofs.deoxys_ii.encrypt_decrypt_message.Statement.{statement}
+use Rattle.modes.proofs.deoxys_ii.encrypt_decrypt_message.Tie as tie
+
+abbrev Inv-loop : tie.InvT-loop
+Inv-loop k tag nonce buffer₀ block n running₀ j₀ buffer running j = Streaming k tag nonce (blocks buffer₀) j buffer (running .rows) (buffer₀ ⊕ given (keystreamFrom k tag nonce (blocks buffer₀) 0))
+    (running₀ .rows + length (keystreamFrom k tag nonce (blocks buffer₀) 0))
+    × (j ≤ n) × (length buffer ≡ length buffer₀) × (running .rows ≡ running₀ .rows + j)
+
+abbrev μ-loop : tie.MeasureT-loop
+μ-loop k tag nonce buffer₀ block n running₀ j₀ buffer running j = n - j
+
+prefixed-requires : tie.Need-prefixed-requires Inv-loop μ-loop
+prefixed-requires c κs = search needs
+
+loop-holds : tie.Need-loop-holds Inv-loop μ-loop
+loop-holds c = (stream-start _ _ _ _ _ _, search needs, refl, omega arith)
+
+mul-at : tie.Need-mul-at Inv-loop μ-loop
+mul-at c = search needs
+
+add-end : tie.Need-add-end Inv-loop μ-loop
+add-end c = search needs
+
+sub-crypt-block : tie.Need-sub-crypt-block Inv-loop μ-loop
+sub-crypt-block c = search needs
+
+part-crypt-block-start : tie.Need-part-crypt-block-start Inv-loop μ-loop
+part-crypt-block-start c = search needs
+
+part-crypt-block-end : tie.Need-part-crypt-block-end Inv-loop μ-loop
+part-crypt-block-end c = search needs
+
+crypt-block-requires : tie.Need-crypt-block-requires Inv-loop μ-loop
+crypt-block-requires c κs = search needs
+
+add-j : tie.Need-add-j Inv-loop μ-loop
+add-j c = search needs
+
+loop-less : tie.Need-loop-less Inv-loop μ-loop
+loop-less c = search needs
+
+loop-again : tie.Need-loop-again Inv-loop μ-loop
+loop-again c = let l = c .before .before .before .before .before .loop in
+    let w = rw (c .before .before .before .before .before .before .prefixed .ensures) at (c .before .before .crypt-block .ensures .1 .0) in
+    let size = rw (c .before .before .before .before .before .before .prefixed .ensures) at (c .before .before .crypt-block .ensures .1 .1) in
+    let t = stream-turn _ _ _ _ _ _ _ _ _ (l .inv .0) _ (omega arith) (omega arith) size w in
+    rw (c .before .before .crypt-block .ensures .0) (t, search needs, omega arith, omega arith)
+
+mul-at-2 : tie.Need-mul-at-2 Inv-loop μ-loop
+mul-at-2 c = search needs
+
+sub-crypt-block-2 : tie.Need-sub-crypt-block-2 Inv-loop μ-loop
+sub-crypt-block-2 c = search needs
+
+part-crypt-block-start-2 : tie.Need-part-crypt-block-start-2 Inv-loop μ-loop
+part-crypt-block-start-2 c = search needs
+
+part-crypt-block-end-2 : tie.Need-part-crypt-block-end-2 Inv-loop μ-loop
+part-crypt-block-end-2 c = search needs
+
+crypt-block-requires-2 : tie.Need-crypt-block-requires-2 Inv-loop μ-loop
+crypt-block-requires-2 c κs = search needs
+
+same-length : tie.Need-same-length Inv-loop μ-loop
+same-length c = search needs
+
+returns : tie.Need-returns Inv-loop μ-loop
+returns c = let l = c .before .before .before .before .before .before .loop in
+    let e : l .j ≡ length (c .before .before .before .before .before .before .before .before .before .before .args .buffer .now) / 16 = omega arith in
+    let t = stream-part _ _ _ _ _ _ _ _ _ (l .inv .0) (omega arith) in
+    rw (rest-put, c .before .before .crypt-block2 .ensures .1 .0, c .before .before .crypt-block2 .ensures .0, c .before .before .before .before .before .before .before .prefixed .ensures, rest-is, ← e) (counted (t .0), t .1)
+
+same-length-2 : tie.Need-same-length-2 Inv-loop μ-loop
+same-length-2 c = search needs
+
+returns-2 : tie.Need-returns-2 Inv-loop μ-loop
+returns-2 c = let l = c .before .before .loop in
+    let t = stream-none _ _ _ _ _ _ _ _ _ (l .inv .0) (omega arith) (omega arith) in
+    (counted (t .0), t .1)
+
+pub encrypt-decrypt-message-spec : {M : Type 1} → statement M
+encrypt-decrypt-message-spec =
+    tie.close
+    (tie.spec
+    Inv-loop
+    μ-loop
+    prefixed-requires
+    loop-holds
+    mul-at
+    add-end
+    sub-crypt-block
+    part-crypt-block-start
+    part-crypt-block-end
+    crypt-block-requires
+    add-j
+    loop-less
+    loop-again
+    mul-at-2
+    sub-crypt-block-2
+    part-crypt-block-start-2
+    part-crypt-block-end-2
+    crypt-block-requires-2
+    same-length
+    returns
+    same-length-2
+    returns-2)

@@ -1,0 +1,4 @@
+pub mod Tweaks
+pub mod Rows
+pub mod DeoxysI
+pub mod DeoxysII
