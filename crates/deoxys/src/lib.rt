@@ -2,7 +2,7 @@
 ghost use mathlib.Core.Path.{_≡_};
 ghost use lib.ListN.{length};
 ghost use Rattle.deoxys.specs.Suites.{refusal};
-ghost use Rattle.deoxys.specs.Entry.{Sealing, Opening, opened, sealing, opening};
+ghost use Rattle.deoxys.specs.Entry.{Sealing, Opening, sealed, opened, sealing, opening};
 
 mod suites;
 
@@ -25,29 +25,20 @@ const WRONG_TAG_LENGTH: u8 = 6;
 
 const WRONG_TAG: u8 = 7;
 
-// The work of sealing, where nothing is refused.
-fn seal_good(suite: u8, key: &[u8], nonce: &[u8], ad: &[u8], buffer: &mut [u8]) -> Sealed
+// The ciphertext and its tag, where nothing is refused.
+fn protect(suite: u8, key: &[u8], nonce: &[u8], ad: &[u8], buffer: &mut [u8]) -> modes::Tagged
     requires { ⌜ refusal suite (length (now key)) (length (now nonce)) (length (now ad)) (length (now buffer)) ≡ 0 ⌝ }
-    ensures { λ r. ⌜ _≡_ {A = Sealing} (record { answer = r; buffer = now (buffer .exit) })
-        (sealing suite (now (key .entry)) (now (nonce .entry)) (now (ad .entry)) (now (buffer .entry))) ⌝ }
+    ensures { λ r. ⌜ r ≡ record {
+      tag = sealed suite (now (key .entry)) (now (nonce .entry)) (now (ad .entry)) (now (buffer .entry)) .tag;
+      count = record { rows = length (sealed suite (now (key .entry)) (now (nonce .entry)) (now (ad .entry)) (now (buffer .entry)) .rows) };
+    } ⌝ }
+    ensures { λ r. ⌜ now (buffer .exit) ≡ sealed suite (now (key .entry)) (now (nonce .entry)) (now (ad .entry)) (now (buffer .entry)) .text ⌝ }
 {
     let k = deoxys_bc::tweakey::precompute_subkeys(key);
     if suite <= 2 {
-        let tagged = modes::deoxys_i::seal(k, nonce, ad, buffer);
-        let tag = tagged.tag;
-        return Sealed {
-            number: 0,
-            tag,
-            rows: tagged.count.rows,
-        };
+        return modes::deoxys_i::seal(k, nonce, ad, buffer);
     }
-    let tagged = modes::deoxys_ii::seal(k, nonce, ad, buffer);
-    let tag = tagged.tag;
-    Sealed {
-        number: 0,
-        tag,
-        rows: tagged.count.rows,
-    }
+    modes::deoxys_ii::seal(k, nonce, ad, buffer)
 }
 
 // Seals the buffer in place, or refuses and leaves it as it was.
@@ -63,7 +54,13 @@ pub fn seal(suite: u8, key: &[u8], nonce: &[u8], ad: &[u8], buffer: &mut [u8]) -
             rows: 0,
         };
     }
-    seal_good(suite, key, nonce, ad, buffer)
+    let tagged = protect(suite, key, nonce, ad, buffer);
+    let tag = tagged.tag;
+    Sealed {
+        number: 0,
+        tag,
+        rows: tagged.count.rows,
+    }
 }
 
 // The message and its computed tag, where nothing is refused yet.

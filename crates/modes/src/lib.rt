@@ -12,7 +12,7 @@ use deoxys_bc::Subkeys;
 
 pub mod deoxys_i;
 pub mod deoxys_ii;
-pub mod tweaks;
+mod tweaks;
 
 const TWEAK_AD: u8 = 0x20;
 
