@@ -1,0 +1,7 @@
+pub mod Keys
+pub mod Blocks
+pub mod ModeI
+pub mod ModeII
+pub mod Modes
+pub mod Views
+pub mod Promises

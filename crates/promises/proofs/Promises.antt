@@ -1,0 +1,242 @@
+-- The proofs of the statements of specs/Statements, in their order.
+-- Assumes nothing.
+use mathlib.Core.Path.{_≡_, refl, sym, ap, _∙_, subst}
+use mathlib.Core.Bool.{Bool, true, false}
+use mathlib.Core.Logic.{_↔_}
+use mathlib.Core.List.{List}
+use Prim.Native.Nat.{ℕ, _+_, _≤_}
+use native.Mathlib.Omega.{arith}
+use lib.ListN.{length, replicate}
+use Rattle.octets.specs.Octets.{Bytes, Block, same}
+use Rattle.octets.proofs.Sameness.{same-refl, same-eq}
+use Rattle.deoxys.specs.Suites.{refusal}
+use Rattle.deoxys.specs.Entry.{Sealing, Opening, sealed, opened, sealing, opening}
+use Rattle.deoxys.proofs.Refusals.{good}
+use Rattle.deoxys.proofs.Answers.{seal-done, open-done}
+use Rattle.promises.specs.Statements.{
+  SealAllows,
+  OpenAllows,
+  Given,
+  Seals,
+  Source,
+  Accepts-exactly,
+  Leaves-the-message,
+  Only-one,
+  Keys-alike,
+  Refused-alike,
+  Returned,
+  Round-trip,
+  rowsFor,
+  Rows-counted-sealing,
+  Rows-counted-opening,
+  One-outcome-of-seal,
+  One-outcome-of-open,
+}
+use Rattle.promises.proofs.ModeI.{Like, Mode}
+use Rattle.promises.proofs.Modes.{mode, rows-sealed, rows-opened}
+use Rattle.promises.proofs.Views.{number, SealView, seal-view, OpenView, open-view, refusal-small}
+
+-- ---- what a message that seals says
+
+module _ {suite : ℕ} {key nonce ad message cipher tag : List ℕ} (s : Seals suite key nonce ad message cipher tag) where
+  -- nothing refuses it, and ciphertext and tag are the mode's
+  record Work : Type 0 where
+    allowed : number suite key nonce ad message ≡ 0
+    cipher-is : sealed suite key nonce ad message .text ≡ cipher
+    tag-is : sealed suite key nonce ad message .tag ≡ tag
+
+  work : Work
+  work = by (seal-view suite key nonce ad message)
+    where
+      by : SealView suite key nonce ad message → Work
+      by (SealView.refused h e) = absurd (h (sym (ap (λ (o : Sealing). o .answer .number) e) ∙ s .answers))
+      by (SealView.done h e) = record {
+        allowed = h;
+        cipher-is = sym (ap (λ (o : Sealing). o .buffer) e) ∙ s .gives-cipher;
+        tag-is = sym (ap (λ (o : Sealing). o .answer .tag) e) ∙ s .gives-tag;
+      }
+
+module _ {suite : ℕ} {key nonce ad message cipher tag : List ℕ} (given : Given key nonce ad) (pm : Bytes message)
+    (s : Seals suite key nonce ad message cipher tag) where
+  the-mode : Mode (sealed suite key nonce ad) (opened suite key nonce ad)
+  the-mode = mode given (good _ _ _ _ _ (work s .allowed))
+
+  -- the ciphertext is as long, so that nothing refuses it either; the tag is a block
+  same-length : length cipher ≡ length message
+  same-length = ap length (sym (work s .cipher-is)) ∙ the-mode .sealed-like message pm .size
+
+  cipher-allowed : number suite key nonce ad cipher ≡ 0
+  cipher-allowed = ap (λ (n : ℕ). refusal suite (length key) (length nonce) (length ad) n) same-length ∙ work s .allowed
+
+  tag-is-block : Block tag
+  tag-is-block = subst Block (work s .tag-is) (the-mode .tag-block message pm)
+
+  -- and opening it recovers the message and computes this tag
+  recovers : opened suite key nonce ad cipher tag .text ≡ message
+  recovers = rw (← work s .cipher-is, ← work s .tag-is) (the-mode .gives-back message pm)
+
+  computes : opened suite key nonce ad cipher tag .tag ≡ tag
+  computes = rw (← work s .cipher-is, ← work s .tag-is) (the-mode .same-tag message pm)
+
+-- ---- an opening by its outcome
+
+numbers : {a b : Opening} → a ≡ b → a .answer .number ≡ b .answer .number
+numbers e = ap (λ (o : Opening). o .answer .number) e
+
+module _ (suite : ℕ) (key nonce ad cipher tag : List ℕ) (outcome : Opening) (o : OpenAllows suite key nonce ad cipher tag outcome) where
+  -- it answers 0: nothing refused it, and the tag is the computed one
+  record Accepted : Type 0 where
+    allowed : number suite key nonce ad cipher ≡ 0
+    tag-length : length tag ≡ 16
+    right : tag ≡ opened suite key nonce ad cipher tag .tag
+    is : outcome ≡ record {
+      answer = record { number = 0; rows = length (opened suite key nonce ad cipher tag .rows) };
+      buffer = opened suite key nonce ad cipher tag .text;
+    }
+
+  accepted : outcome .answer .number ≡ 0 → Accepted
+  accepted z = by (open-view suite key nonce ad cipher tag)
+    where
+      by : OpenView suite key nonce ad cipher tag → Accepted
+      by (OpenView.refused h e) = absurd (h (sym (numbers (o ∙ e)) ∙ z))
+      by (OpenView.short h l e) = let f : _≡_ {A = ℕ} 6 0 = sym (numbers (o ∙ e)) ∙ z in absurd (omega arith)
+      by (OpenView.accepted h l s e) = record { allowed = h; tag-length = l; right = same-eq tag _ s; is = o ∙ e }
+      by (OpenView.wrong h l s e) = let f : _≡_ {A = ℕ} 7 0 = sym (numbers (o ∙ e)) ∙ z in absurd (omega arith)
+
+  -- it answers 7
+  record Wrong : Type 0 where
+    allowed : number suite key nonce ad cipher ≡ 0
+    tag-length : length tag ≡ 16
+    is : outcome ≡ record {
+      answer = record { number = 7; rows = length (opened suite key nonce ad cipher tag .rows) };
+      buffer = replicate (length cipher) 0;
+    }
+
+  wrong : outcome .answer .number ≡ 7 → Wrong
+  wrong z = by (open-view suite key nonce ad cipher tag)
+    where
+      by : OpenView suite key nonce ad cipher tag → Wrong
+      by (OpenView.refused h e) =
+          let f = sym (numbers (o ∙ e)) ∙ z in
+          let small = refusal-small suite (length key) (length nonce) (length ad) (length cipher) in
+          absurd (omega arith)
+      by (OpenView.short h l e) = let f : _≡_ {A = ℕ} 6 7 = sym (numbers (o ∙ e)) ∙ z in absurd (omega arith)
+      by (OpenView.accepted h l s e) = let f : _≡_ {A = ℕ} 0 7 = sym (numbers (o ∙ e)) ∙ z in absurd (omega arith)
+      by (OpenView.wrong h l s e) = record { allowed = h; tag-length = l; is = o ∙ e }
+
+  -- a sealed message is accepted, and left
+  module _ {message : List ℕ} (given : Given key nonce ad) (pm : Bytes message) (s : Seals suite key nonce ad message cipher tag) where
+    sealed-is : outcome ≡ record {
+      answer = record { number = 0; rows = length (opened suite key nonce ad cipher tag .rows) };
+      buffer = opened suite key nonce ad cipher tag .text;
+    }
+    sealed-is =
+        o ∙ sym (open-done suite key nonce ad cipher tag (cipher-allowed given pm s) (tag-is-block given pm s .size)
+        (ap (same tag) (computes given pm s) ∙ same-refl tag))
+
+-- ---- the promises
+
+pub accepts-exactly : Accepts-exactly
+accepts-exactly suite key nonce ad cipher tag outcome given pc pt o =
+    (λ z. source (accepted suite key nonce ad cipher tag outcome o z), λ f. numbers (sealed-is suite key nonce ad cipher tag outcome o given (f .message-bytes) (f .seals)))
+  where
+    source : Accepted suite key nonce ad cipher tag outcome o → Source suite key nonce ad cipher tag
+    source a =
+        let block : Block tag = record { size = a .tag-length; bytes = pt } in
+        let m = mode given (good _ _ _ _ _ (a .allowed)) in
+        let like = m .opened-like cipher tag pc block in
+        let still : number suite key nonce ad (opened suite key nonce ad cipher tag .text) ≡ 0 =
+        ap (λ (n : ℕ). refusal suite (length key) (length nonce) (length ad) n) (like .size) ∙ a .allowed in
+        let e = sym (seal-done suite key nonce ad (opened suite key nonce ad cipher tag .text) still) in
+        record {
+          message = opened suite key nonce ad cipher tag .text;
+          message-bytes = like .bytes;
+          seals = record {
+            answers = ap (λ (x : Sealing). x .answer .number) e;
+            gives-cipher = ap (λ (x : Sealing). x .buffer) e ∙ m .remakes cipher tag pc block (sym (a .right));
+            gives-tag = ap (λ (x : Sealing). x .answer .tag) e ∙ m .remakes-tag cipher tag pc block (sym (a .right));
+          };
+        }
+
+pub leaves-the-message : Leaves-the-message
+leaves-the-message suite key nonce ad message cipher tag outcome given pm o s =
+    ap (λ (x : Opening). x .buffer) (sealed-is suite key nonce ad cipher tag outcome o given pm s) ∙ recovers given pm s
+
+pub only-one : Only-one
+only-one suite key nonce ad message message′ cipher tag given pm pm′ s s′ = sym (recovers given pm s) ∙ recovers given pm′ s′
+
+pub refused-alike : Refused-alike
+refused-alike suite key key′ nonce nonce′ ad ad′ cipher cipher′ tag tag′ outcome outcome′ given given′ pc pc′ pt pt′ la lc o o′ z z′ =
+    let w = wrong suite key nonce ad cipher tag outcome o z in
+    let w′ = wrong suite key′ nonce′ ad′ cipher′ tag′ outcome′ o′ z′ in
+    let r = rows-opened given pc (record { size = w .tag-length; bytes = pt }) (good _ _ _ _ _ (w .allowed)) in
+    let r′ = rows-opened given′ pc′ (record { size = w′ .tag-length; bytes = pt′ }) (good _ _ _ _ _ (w′ .allowed)) in
+    w .is ∙ rw (r, la, lc) (sym (w′ .is ∙ rw r′))
+
+pub keys-alike : Keys-alike
+keys-alike suite key key′ nonce ad cipher tag outcome outcome′ given given′ pc pt lk o o′ none none′ =
+    by (open-view suite key nonce ad cipher tag) (open-view suite key′ nonce ad cipher tag)
+  where
+    numbers-alike : number suite key nonce ad cipher ≡ number suite key′ nonce ad cipher
+    numbers-alike = ap (λ (n : ℕ). refusal suite n (length nonce) (length ad) (length cipher)) lk
+
+    never : outcome .answer .number ≡ 0 → ⊥
+    never z = none (accepts-exactly suite key nonce ad cipher tag outcome given pc pt o .0 z)
+
+    never′ : outcome′ .answer .number ≡ 0 → ⊥
+    never′ z = none′ (accepts-exactly suite key′ nonce ad cipher tag outcome′ given′ pc pt o′ .0 z)
+
+    by : OpenView suite key nonce ad cipher tag → OpenView suite key′ nonce ad cipher tag → outcome ≡ outcome′
+    by (OpenView.refused h e) (OpenView.refused h′ e′) = o ∙ e ∙ rw numbers-alike (sym (o′ ∙ e′))
+    by (OpenView.refused h e) (OpenView.short h′ l′ e′) = absurd (h (numbers-alike ∙ h′))
+    by (OpenView.refused h e) (OpenView.accepted h′ l′ s′ e′) = absurd (h (numbers-alike ∙ h′))
+    by (OpenView.refused h e) (OpenView.wrong h′ l′ s′ e′) = absurd (h (numbers-alike ∙ h′))
+    by (OpenView.short h l e) (OpenView.refused h′ e′) = absurd (h′ (sym numbers-alike ∙ h))
+    by (OpenView.short h l e) (OpenView.short h′ l′ e′) = o ∙ e ∙ sym (o′ ∙ e′)
+    by (OpenView.short h l e) (OpenView.accepted h′ l′ s′ e′) = absurd (l l′)
+    by (OpenView.short h l e) (OpenView.wrong h′ l′ s′ e′) = absurd (l l′)
+    by (OpenView.accepted h l s e) v = absurd (never (numbers (o ∙ e)))
+    by (OpenView.wrong h l s e) (OpenView.refused h′ e′) = absurd (h′ (sym numbers-alike ∙ h))
+    by (OpenView.wrong h l s e) (OpenView.short h′ l′ e′) = absurd (l′ l)
+    by (OpenView.wrong h l s e) (OpenView.accepted h′ l′ s′ e′) = absurd (never′ (numbers (o′ ∙ e′)))
+    by (OpenView.wrong h l s e) (OpenView.wrong h′ l′ s′ e′) =
+        refused-alike suite key key′ nonce nonce ad ad cipher cipher tag tag outcome outcome′ given given′ pc pc pt pt refl refl o o′
+        (numbers (o ∙ e)) (numbers (o′ ∙ e′))
+
+pub round-trip : Round-trip
+round-trip suite key nonce ad message s o given pm a z b =
+    let seals : Seals suite key nonce ad message (s .buffer) (s .answer .tag) = record {
+      answers = sym (ap (λ (x : Sealing). x .answer .number) a) ∙ z;
+      gives-cipher = sym (ap (λ (x : Sealing). x .buffer) a);
+      gives-tag = sym (ap (λ (x : Sealing). x .answer .tag) a);
+    } in
+    let is = sealed-is suite key nonce ad (s .buffer) (s .answer .tag) o b given pm seals in
+    record {
+      accepts = numbers is;
+      gives-back = ap (λ (x : Opening). x .buffer) is ∙ recovers given pm seals;
+      rows-sealing = ap (λ (x : Sealing). x .answer .rows) (a ∙ sym (seal-done suite key nonce ad message (work seals .allowed)));
+      rows-opening = ap (λ (x : Opening). x .answer .rows) is;
+    }
+
+pub rows-counted-sealing : Rows-counted-sealing
+rows-counted-sealing suite key nonce ad message outcome a z = by (seal-view suite key nonce ad message)
+  where
+    by : SealView suite key nonce ad message → outcome .answer .rows ≡ rowsFor suite (length ad) (length message)
+    by (SealView.refused h e) = absurd (h (sym (ap (λ (x : Sealing). x .answer .number) (a ∙ e)) ∙ z))
+    by (SealView.done h e) = ap (λ (x : Sealing). x .answer .rows) (a ∙ e) ∙ rows-sealed suite key nonce ad message
+
+pub rows-counted-opening : Rows-counted-opening
+rows-counted-opening suite key nonce ad cipher tag outcome given pc pt o = (
+  λ z. let a = accepted suite key nonce ad cipher tag outcome o z in ap (λ (x : Opening). x .answer .rows) (a .is) ∙ counted (a .allowed) (a .tag-length),
+  λ z. let w = wrong suite key nonce ad cipher tag outcome o z in ap (λ (x : Opening). x .answer .rows) (w .is) ∙ counted (w .allowed) (w .tag-length),
+)
+  where
+    counted : number suite key nonce ad cipher ≡ 0 → length tag ≡ 16
+        → length (opened suite key nonce ad cipher tag .rows) ≡ rowsFor suite (length ad) (length cipher)
+    counted h l = rows-opened given pc (record { size = l; bytes = pt }) (good _ _ _ _ _ h)
+
+pub one-outcome-of-seal : One-outcome-of-seal
+one-outcome-of-seal suite key nonce ad message outcome outcome′ a a′ = a ∙ sym a′
+
+pub one-outcome-of-open : One-outcome-of-open
+one-outcome-of-open suite key nonce ad cipher tag outcome outcome′ a a′ = a ∙ sym a′
