@@ -1,0 +1,84 @@
+//! Times the archive and the crate's files side by side, and writes a table.
+#![forbid(unsafe_code)]
+
+mod stopwatch;
+
+use cases::Case;
+use deoxys::{SUITES, Suite};
+use stopwatch::{Operation, Side, Task};
+
+const DATA_LENGTH: usize = 18;
+const MESSAGE_LENGTHS: [usize; 5] = [16, 144, 4096, 65_536, 1_048_576];
+
+fn main() {
+    let sides = sides();
+    print_heading();
+    for suite in &SUITES {
+        for operation in [Operation::Sealing, Operation::Opening] {
+            for length in MESSAGE_LENGTHS {
+                print_row(suite, operation, length, &sides);
+            }
+        }
+    }
+}
+
+/// Ours first, then the crate as far as it can run here.
+fn sides() -> Vec<Side> {
+    let mut sides = vec![Side::Ours];
+    if oracle::WHY_NOT_GIVEN.is_none() {
+        if oracle::instructions_present() {
+            sides.push(Side::CrateWithInstructions);
+        }
+        sides.push(Side::CrateWithout);
+    }
+    sides
+}
+
+fn print_heading() {
+    println!("Processor: {}.", processor());
+    let present = oracle::instructions_present();
+    println!("AES instructions: {}.", if present { "there" } else { "not there" });
+    if let Some(reason) = oracle::WHY_NOT_GIVEN {
+        println!("Our side only: {reason}, so the crate's files are not here.");
+    }
+    println!(
+        "Nanoseconds a call, medians; {DATA_LENGTH} bytes of data. Every call expands its key, on all \
+         sides. The buffers are filled anew before each measurement, and that isn't timed. A ratio is \
+         our speed over the crate's: above 1, ours is the faster.\n"
+    );
+    println!(
+        "| suite | operation | bytes | ours | crate, AES instructions | crate, without \
+         | ours/crate | ours/crate without |"
+    );
+    println!("|---|---|---:|---:|---:|---:|---:|---:|");
+}
+
+fn print_row(suite: &'static Suite, operation: Operation, length: usize, sides: &[Side]) {
+    let case = Case::new(suite, DATA_LENGTH, length, length as u64);
+    let medians = Task::new(case, operation).medians(sides);
+    let time = |side| medians.iter().find(|(s, _)| *s == side).map(|(_, time)| *time);
+    let ours = time(Side::Ours);
+    let (with, without) = (time(Side::CrateWithInstructions), time(Side::CrateWithout));
+    let ratio = |crate_time: Option<f64>| crate_time.zip(ours).map(|(theirs, ours)| theirs / ours);
+    println!(
+        "| {} | {} | {length} | {} | {} | {} | {} | {} |",
+        suite.name,
+        operation.name(),
+        shown(ours, 0),
+        shown(with, 0),
+        shown(without, 0),
+        shown(ratio(with), 2),
+        shown(ratio(without), 2),
+    );
+}
+
+fn shown(value: Option<f64>, decimals: usize) -> String {
+    value.map_or("-".to_string(), |value| format!("{value:.decimals$}"))
+}
+
+fn processor() -> String {
+    let description = std::fs::read_to_string("/proc/cpuinfo").unwrap_or_default();
+    let model = description.lines().find_map(|line| line.strip_prefix("model name"));
+    model
+        .map_or("unknown".to_string(), |rest| rest.trim_start_matches([' ', '\t', ':']).to_string())
+}

@@ -1,0 +1,224 @@
+/* Calls the archive from C through include/deoxys.h: seals, opens, opens a
+ * forgery, and is refused. Exit status 1 if anything isn't as the header says. */
+#include "deoxys.h"
+
+#include <stdio.h>
+#include <string.h>
+
+_Static_assert(offsetof(struct deoxys_sealed, tag) == 1, "layout");
+_Static_assert(offsetof(struct deoxys_sealed, rows) == 24, "layout");
+_Static_assert(sizeof(struct deoxys_sealed) == 32, "layout");
+_Static_assert(offsetof(struct deoxys_opened, rows) == 8, "layout");
+_Static_assert(sizeof(struct deoxys_opened) == 16, "layout");
+
+enum { MESSAGE_LENGTH = 37, DATA_LENGTH = 18, AROUND = 16, LONGEST_KEY = 32, LONGEST_NONCE = 15 };
+
+struct suite {
+    uint8_t number;
+    const char *name;
+    size_t key_length, nonce_length, rows;
+    const char *ciphertext, *tag;
+};
+
+/* The rows are those of 18 bytes of data (2 blocks) and 37 of message (3). The
+ * ciphertexts and tags come from another program for Deoxys, not from the archive. */
+static const struct suite suites[] = {
+    {DEOXYS_I_128, "Deoxys-I-128", 16, 8, 6,
+     "13a61646ae36b63e89f3a5d58da19fc50b7f19553ecbd844bc24371b0a8db3f4a2e9bc70d8",
+     "40f908cb9d52bd6c041cb9a4f13b2bf8"},
+    {DEOXYS_I_256, "Deoxys-I-256", 32, 8, 6,
+     "248842ff380934bad1c5668490005e8008e36fa17b680fec2e73a15873bceb6b8d74948711",
+     "2c677ef98a9fa757c82967cff0ded7f1"},
+    {DEOXYS_II_128, "Deoxys-II-128", 16, 15, 9,
+     "f844ea017ed7dc0f9401902d6a03f2afba8ecbade8f57cbc19262c6bc23852de66e38ac010",
+     "01a5fc4d20fa1eb66971838795642ebb"},
+    {DEOXYS_II_256, "Deoxys-II-256", 32, 15, 9,
+     "51ccb7758094d78ab1798033dfc3b076d97aaac6fe22f656c8b46a35ba3df9b90bc7753041",
+     "9c1a638e9f80f7ccc37025675adc45bf"},
+};
+
+/* The message is in the middle, and the bytes around it may not change. */
+struct memory {
+    uint8_t before[AROUND], message[MESSAGE_LENGTH], after[AROUND];
+};
+
+struct inputs {
+    uint8_t key[LONGEST_KEY + 1], nonce[LONGEST_NONCE + 1], data[DATA_LENGTH];
+};
+
+static int mismatches = 0;
+
+static void expect(int as_it_should_be, const char *what)
+{
+    if (!as_it_should_be) {
+        printf("    MISMATCH: %s\n", what);
+        mismatches++;
+    }
+}
+
+static void count_up(uint8_t *bytes, size_t count, uint8_t first)
+{
+    for (size_t i = 0; i < count; i++)
+        bytes[i] = (uint8_t)(first + i);
+}
+
+static struct memory fresh_memory(void)
+{
+    struct memory memory;
+    memset(&memory, 0xa5, sizeof memory);
+    count_up(memory.message, MESSAGE_LENGTH, 0x40);
+    return memory;
+}
+
+static struct inputs fresh_inputs(void)
+{
+    struct inputs inputs;
+    count_up(inputs.key, sizeof inputs.key, 0x10);
+    count_up(inputs.nonce, sizeof inputs.nonce, 0x20);
+    count_up(inputs.data, sizeof inputs.data, 0x30);
+    return inputs;
+}
+
+static int all_are(const uint8_t *bytes, size_t count, uint8_t value)
+{
+    for (size_t i = 0; i < count; i++)
+        if (bytes[i] != value)
+            return 0;
+    return 1;
+}
+
+static void expect_surroundings(const struct memory *memory, const struct inputs *inputs)
+{
+    struct inputs fresh = fresh_inputs();
+    expect(all_are(memory->before, AROUND, 0xa5), "the bytes before the buffer changed");
+    expect(all_are(memory->after, AROUND, 0xa5), "the bytes after the buffer changed");
+    expect(memcmp(inputs, &fresh, sizeof fresh) == 0, "a read-only input changed");
+}
+
+static struct deoxys_sealed seal_message(const struct suite *suite, struct memory *memory)
+{
+    struct inputs in = fresh_inputs();
+    struct deoxys_sealed sealed =
+        deoxys_seal(suite->number, in.key, suite->key_length, in.nonce, suite->nonce_length,
+                    in.data, sizeof in.data, memory->message, MESSAGE_LENGTH);
+    expect_surroundings(memory, &in);
+    return sealed;
+}
+
+static struct deoxys_opened open_message(const struct suite *suite, struct memory *memory,
+                                         const uint8_t *tag, size_t tag_length)
+{
+    struct inputs in = fresh_inputs();
+    struct deoxys_opened opened =
+        deoxys_open(suite->number, in.key, suite->key_length, in.nonce, suite->nonce_length,
+                    in.data, sizeof in.data, memory->message, MESSAGE_LENGTH, tag, tag_length);
+    expect_surroundings(memory, &in);
+    return opened;
+}
+
+static void expect_bytes(const char *what, const uint8_t *bytes, size_t count, const char *hex)
+{
+    char seen[2 * MESSAGE_LENGTH + 1] = "";
+    for (size_t i = 0; i < count; i++)
+        snprintf(seen + 2 * i, 3, "%02x", bytes[i]);
+    printf("    %s %s\n", what, seen);
+    expect(strcmp(seen, hex) == 0, "other bytes were expected");
+}
+
+static void seal_and_open(const struct suite *suite)
+{
+    struct memory memory = fresh_memory(), fresh = fresh_memory();
+    struct deoxys_sealed sealed = seal_message(suite, &memory);
+    printf("  sealed: number %d, %zu rows\n", sealed.number, sealed.rows);
+    expect_bytes("ciphertext", memory.message, MESSAGE_LENGTH, suite->ciphertext);
+    expect_bytes("tag       ", sealed.tag, sizeof sealed.tag, suite->tag);
+    expect(sealed.number == DEOXYS_DONE, "sealing wasn't done");
+    expect(sealed.rows == suite->rows, "rows of the sealing");
+
+    struct deoxys_opened opened = open_message(suite, &memory, sealed.tag, sizeof sealed.tag);
+    printf("  opened: number %d, %zu rows\n", opened.number, opened.rows);
+    expect(opened.number == DEOXYS_DONE, "opening wasn't done");
+    expect(opened.rows == suite->rows, "rows of the opening");
+    expect(memcmp(memory.message, fresh.message, MESSAGE_LENGTH) == 0, "the message isn't back");
+}
+
+static void open_forgeries(const struct suite *suite)
+{
+    int all_zero = 1;
+    for (size_t bit = 0; bit < 8 * DEOXYS_TAG_LENGTH; bit++) {
+        struct memory memory = fresh_memory();
+        struct deoxys_sealed sealed = seal_message(suite, &memory);
+        sealed.tag[bit / 8] ^= (uint8_t)(1 << bit % 8);
+        struct deoxys_opened opened = open_message(suite, &memory, sealed.tag, sizeof sealed.tag);
+        expect(opened.number == DEOXYS_WRONG_TAG, "a forgery wasn't refused with 7");
+        expect(opened.rows == suite->rows, "rows of a forgery");
+        all_zero = all_zero && all_are(memory.message, MESSAGE_LENGTH, 0);
+    }
+    printf("  opened with each bit of the tag flipped: buffer %s\n",
+           all_zero ? "zero to the last byte" : "NOT ZERO");
+    expect(all_zero, "bytes are left after a forgery");
+}
+
+/* A suite that differs from a right one in one thing. */
+static void refuse_sealing(struct suite wrong, uint8_t number, const char *what)
+{
+    struct memory memory = fresh_memory(), fresh = fresh_memory();
+    struct deoxys_sealed sealed = seal_message(&wrong, &memory);
+    printf("  %s: number %d, %zu rows\n", what, sealed.number, sealed.rows);
+    expect(sealed.number == number, "another number was expected");
+    expect(sealed.rows == 0, "a refusal counts rows");
+    expect(all_are(sealed.tag, sizeof sealed.tag, 0), "a refusal gives a tag");
+    expect(memcmp(&memory, &fresh, sizeof fresh) == 0, "a refusal changed the buffer");
+}
+
+static void refuse_opening(const struct suite *suite, size_t tag_length)
+{
+    uint8_t tag[17] = {0};
+    struct memory memory = fresh_memory(), fresh = fresh_memory();
+    struct deoxys_opened opened = open_message(suite, &memory, tag, tag_length);
+    printf("  tag of %zu bytes: number %d, %zu rows\n", tag_length, opened.number, opened.rows);
+    expect(opened.number == DEOXYS_BAD_TAG_LENGTH, "another number was expected");
+    expect(opened.rows == 0, "a refusal counts rows");
+    expect(memcmp(&memory, &fresh, sizeof fresh) == 0, "a refusal changed the buffer");
+}
+
+static void refuse(const struct suite *suite)
+{
+    struct suite other_number = *suite, longer_key = *suite, longer_nonce = *suite;
+    other_number.number = 5;
+    longer_key.key_length++;
+    longer_nonce.nonce_length++;
+    refuse_sealing(other_number, DEOXYS_BAD_SUITE, "suite 5");
+    refuse_sealing(longer_key, DEOXYS_BAD_KEY_LENGTH, "key a byte too long");
+    refuse_sealing(longer_nonce, DEOXYS_BAD_NONCE_LENGTH, "nonce a byte too long");
+    refuse_opening(suite, 15);
+    refuse_opening(suite, 17);
+}
+
+static void refuse_too_much(void)
+{
+    static uint8_t long_data[DEOXYS_LIMIT + 1], long_message[DEOXYS_LIMIT + 1];
+    struct inputs in = fresh_inputs();
+    struct deoxys_sealed data = deoxys_seal(DEOXYS_I_128, in.key, 16, in.nonce, 8, long_data,
+                                            sizeof long_data, long_message, sizeof long_message);
+    struct deoxys_sealed message = deoxys_seal(DEOXYS_I_128, in.key, 16, in.nonce, 8, long_data,
+                                               DEOXYS_LIMIT, long_message, sizeof long_message);
+    printf("a byte over the limit: number %d for data, %d for a message\n", data.number,
+           message.number);
+    expect(data.number == DEOXYS_DATA_TOO_LONG, "data over the limit");
+    expect(message.number == DEOXYS_MESSAGE_TOO_LONG, "a message over the limit");
+    expect(all_are(long_message, sizeof long_message, 0), "a refusal changed the buffer");
+}
+
+int main(void)
+{
+    for (size_t i = 0; i < sizeof suites / sizeof suites[0]; i++) {
+        printf("suite %d, %s\n", suites[i].number, suites[i].name);
+        seal_and_open(&suites[i]);
+        open_forgeries(&suites[i]);
+        refuse(&suites[i]);
+    }
+    refuse_too_much();
+    printf("C: %d mismatches\n", mismatches);
+    return mismatches == 0 ? 0 : 1;
+}

@@ -1,0 +1,178 @@
+//! One case: sealed and opened by both, whole and damaged.
+
+use crate::report::{Kind, Part, Place, Report};
+use cases::{Case, Generator};
+use deoxys::ffi;
+use std::fmt::Debug;
+
+/// What an opening is given.
+#[derive(Clone)]
+struct Opening {
+    key: Vec<u8>,
+    nonce: Vec<u8>,
+    data: Vec<u8>,
+    ciphertext: Vec<u8>,
+    tag: [u8; 16],
+}
+
+impl Opening {
+    fn part(&mut self, part: Part) -> &mut [u8] {
+        match part {
+            Part::Tag => &mut self.tag,
+            Part::Ciphertext => &mut self.ciphertext,
+            Part::Data => &mut self.data,
+            Part::Nonce => &mut self.nonce,
+            Part::Key => &mut self.key,
+        }
+    }
+}
+
+/// What both sides made of an opening.
+struct Opened {
+    verdicts: Verdicts,
+    our_bytes: Vec<u8>,
+    crate_bytes: Vec<u8>,
+}
+
+#[derive(Debug, PartialEq)]
+struct Verdicts {
+    our_number: u8,
+    crate_accepts: bool,
+}
+
+#[derive(Debug, PartialEq)]
+struct Calls {
+    ours: usize,
+    by_crate: usize,
+}
+
+pub fn check(case: &Case, report: &mut Report) {
+    let mut checker = Checker::new(case, report);
+    let mut opening = checker.sealing();
+    checker.opening(&opening);
+    let mut generator = Generator::new(!case.seed);
+    for part in Part::ALL {
+        let bits = 8 * opening.part(part).len();
+        if bits > 0 {
+            checker.damaged_opening(opening.clone(), part, generator.below(bits));
+        }
+    }
+}
+
+pub fn check_every_tag_bit(case: &Case, report: &mut Report) {
+    let mut checker = Checker::new(case, report);
+    let opening = checker.sealing();
+    for bit in 0..128 {
+        checker.damaged_opening(opening.clone(), Part::Tag, bit);
+    }
+}
+
+struct Checker<'a> {
+    case: &'a Case,
+    suite: u8,
+    report: &'a mut Report,
+    damage: Option<(Part, usize)>,
+}
+
+impl<'a> Checker<'a> {
+    fn new(case: &'a Case, report: &'a mut Report) -> Self {
+        Checker { case, suite: case.suite.number, report, damage: None }
+    }
+
+    /// Gives what the crate sealed.
+    fn sealing(&mut self) -> Opening {
+        let Case { key, nonce, data, message, .. } = self.case;
+        let (ours, our_bytes, untouched) =
+            surrounded(message, |buffer| ffi::seal(self.suite, key, nonce, data, buffer));
+        let mut ciphertext = message.clone();
+        let (tag, by_crate) = oracle::count_calls(self.suite, || {
+            oracle::seal(self.suite, key, nonce, data, &mut ciphertext)
+        });
+
+        self.values(Kind::SealingDone, ours.number, 0);
+        self.bytes(Kind::Ciphertext, &our_bytes, &ciphertext);
+        self.bytes(Kind::Tag, &ours.tag, &tag);
+        self.calls(Kind::SealingCalls, Calls { ours: ours.rows, by_crate });
+        self.values(Kind::Surroundings, untouched, true);
+        let (key, nonce, data) = (key.clone(), nonce.clone(), data.clone());
+        Opening { key, nonce, data, ciphertext, tag }
+    }
+
+    fn opening(&mut self, opening: &Opening) {
+        let opened = self.open(Kind::OpeningCalls, opening);
+        let both_accept = Verdicts { our_number: 0, crate_accepts: true };
+        self.values(Kind::OpeningDone, opened.verdicts, both_accept);
+        self.bytes(Kind::Message, &opened.our_bytes, &self.case.message);
+        self.bytes(Kind::Message, &opened.crate_bytes, &self.case.message);
+    }
+
+    fn damaged_opening(&mut self, mut opening: Opening, part: Part, bit: usize) {
+        self.damage = Some((part, bit));
+        opening.part(part)[bit / 8] ^= 1 << (bit % 8);
+        let opened = self.open(Kind::DamagedCalls, &opening);
+        let both_refuse = Verdicts { our_number: 7, crate_accepts: false };
+        self.values(Kind::Damaged(part), opened.verdicts, both_refuse);
+        let zeros = vec![0; opening.ciphertext.len()];
+        self.bytes(Kind::Zeros, &opened.our_bytes, &zeros);
+        if opened.crate_bytes != zeros {
+            self.report.known_difference(self.suite, Kind::CrateLeftBytes);
+        }
+    }
+
+    fn open(&mut self, calls_kind: Kind, opening: &Opening) -> Opened {
+        let Opening { key, nonce, data, ciphertext, tag } = opening;
+        let (ours, our_bytes, untouched) =
+            surrounded(ciphertext, |buffer| ffi::open(self.suite, key, nonce, data, buffer, tag));
+        let mut crate_bytes = ciphertext.clone();
+        let (crate_accepts, by_crate) = oracle::count_calls(self.suite, || {
+            oracle::open(self.suite, key, nonce, data, &mut crate_bytes, tag)
+        });
+
+        self.calls(calls_kind, Calls { ours: ours.rows, by_crate });
+        self.values(Kind::Surroundings, untouched, true);
+        let verdicts = Verdicts { our_number: ours.number, crate_accepts };
+        Opened { verdicts, our_bytes, crate_bytes }
+    }
+
+    /// The crate draws keystream for the rest after the whole blocks, even where there is none.
+    fn calls(&mut self, kind: Kind, calls: Calls) {
+        let length = self.case.message.len();
+        let has_no_rest = length > 0 && length.is_multiple_of(16);
+        let one_more = self.case.suite.is_two_pass() && has_no_rest;
+        let ours = self.case.rows();
+        let by_crate = ours + usize::from(one_more);
+        if calls.by_crate == ours + 1 {
+            self.report.known_difference(self.suite, Kind::OneCallMore);
+        }
+        self.values(kind, calls, Calls { ours, by_crate });
+    }
+
+    fn values<T: PartialEq + Debug>(&mut self, kind: Kind, seen: T, expected: T) {
+        let name = || name(self.case, self.damage);
+        let place = Place::new(self.suite, kind, &name);
+        self.report.values(place, seen, expected);
+    }
+
+    fn bytes(&mut self, kind: Kind, seen: &[u8], expected: &[u8]) {
+        let name = || name(self.case, self.damage);
+        let place = Place::new(self.suite, kind, &name);
+        self.report.bytes(place, seen, expected);
+    }
+}
+
+fn name(case: &Case, damage: Option<(Part, usize)>) -> String {
+    let damage = damage.map(|(part, bit)| format!(", bit {bit} of the {} flipped", part.name()));
+    case.name() + &damage.unwrap_or_default()
+}
+
+/// Lends `work` a buffer that holds `bytes`. Gives what it holds then, and whether the bytes before and
+/// after it are untouched.
+pub fn surrounded<R>(bytes: &[u8], work: impl FnOnce(&mut [u8]) -> R) -> (R, Vec<u8>, bool) {
+    const AROUND: [u8; 32] = [0xa5; 32];
+    let mut memory = [&AROUND, bytes, &AROUND].concat();
+    let answer = work(&mut memory[32..32 + bytes.len()]);
+    let untouched = memory.starts_with(&AROUND) && memory.ends_with(&AROUND);
+    memory.truncate(32 + bytes.len());
+    memory.drain(..32);
+    (answer, memory, untouched)
+}

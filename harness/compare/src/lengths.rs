@@ -1,0 +1,40 @@
+//! The lengths of data and message that are compared.
+
+use deoxys::LIMIT;
+
+/// On both sides of every block border up to two blocks, and three whole ones.
+pub const AROUND_BLOCKS: [usize; 9] = [0, 1, 15, 16, 17, 31, 32, 33, 48];
+
+const SHORT_MESSAGES: std::ops::RangeInclusive<usize> = 0..=80;
+
+/// The block number grows by a byte at 4,096 bytes, and again at the limit.
+const LONG: [usize; 17] = [
+    255,
+    256,
+    257,
+    1000,
+    4080,
+    4095,
+    4096,
+    4097,
+    4112,
+    8191,
+    8192,
+    8193,
+    65_535,
+    65_536,
+    65_537,
+    LIMIT - 1,
+    LIMIT,
+];
+
+/// Without a message too: in Deoxys-II a message that is recovered wrongly hides a bit not compared.
+pub const FOR_EVERY_TAG_BIT: [(usize, usize); 2] = [(17, 0), (17, 33)];
+
+/// Pairs of a data and a message length.
+pub fn all() -> impl Iterator<Item = (usize, usize)> {
+    let short = SHORT_MESSAGES.flat_map(|message| AROUND_BLOCKS.map(|data| (data, message)));
+    let long_messages = LONG.map(|message| (18, message));
+    let long_data = LONG.map(|data| (data, 33));
+    short.chain(long_messages).chain(long_data).chain([(LIMIT, LIMIT)])
+}

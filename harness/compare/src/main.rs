@@ -1,0 +1,51 @@
+//! Compares the archive with the crate, case by case, or writes a sample of the crate's answers.
+#![forbid(unsafe_code)]
+
+mod cipher;
+mod lengths;
+mod refusals;
+mod report;
+mod sample;
+
+use cases::Case;
+use deoxys::SUITES;
+use report::Report;
+use std::process::ExitCode;
+
+fn main() -> ExitCode {
+    let words: Vec<String> = std::env::args().skip(1).collect();
+    match (words.as_slice(), oracle::WHY_NOT_GIVEN) {
+        ([], None) => compare(),
+        ([], Some(reason)) => {
+            println!("nothing compared: {reason}, so the crate's files are not here");
+            ExitCode::SUCCESS
+        }
+        ([word], None) if word == "--sample" => {
+            print!("{}", sample::text());
+            ExitCode::SUCCESS
+        }
+        ([word], Some(reason)) if word == "--sample" => {
+            eprintln!("no sample: {reason}, so the crate's files are not here");
+            ExitCode::FAILURE
+        }
+        _ => {
+            eprintln!("usage: compare [--sample]");
+            ExitCode::from(2)
+        }
+    }
+}
+
+fn compare() -> ExitCode {
+    let mut report = Report::default();
+    for suite in &SUITES {
+        for (index, (data, message)) in lengths::all().enumerate() {
+            cipher::check(&Case::new(suite, data, message, index as u64), &mut report);
+        }
+        for (data, message) in lengths::FOR_EVERY_TAG_BIT {
+            cipher::check_every_tag_bit(&Case::new(suite, data, message, 0), &mut report);
+        }
+        refusals::check(suite, &mut report);
+    }
+    report.print();
+    if report.differing() == 0 { ExitCode::SUCCESS } else { ExitCode::FAILURE }
+}
