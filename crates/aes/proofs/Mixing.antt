@@ -84,6 +84,13 @@ pub mix-invMix : {s : List ℕ} → Block s → mixColumns (invMixColumns s) ≡
 unfolding mixColumns invMixColumns
 mix-invMix = columns-undone mixByte unmixByte mix-unmix
 
+-- place by place, with the byte two places below
+pub folded-is : (s : List ℕ)
+    → table (λ i. bitXor (getD s i 0) (double (double (bitXor (getD s i 0) (getD (table (λ j. byteAt s ((j + 2) % 4) (j / 4)) 16) i 0))))) 16
+    ≡ byColumns foldByte s
+unfolding table
+folded-is s = refl
+
 pub mix-folded : {s : List ℕ} → Bytes s → mixColumns (byColumns foldByte s) ≡ invMixColumns s
 unfolding mixColumns invMixColumns
 mix-folded {s} p = columns-through mixByte foldByte s ∙ columns-eq (through mixByte foldByte) unmixByte s p mix-fold

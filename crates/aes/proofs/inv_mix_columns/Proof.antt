@@ -1,35 +1,29 @@
 use mathlib.Core.Path.{refl, ap, _∙_}
-use Prim.Native.Nat.{_+_, _-_, _/_, _%_}
+use Prim.Native.Nat.{_-_}
+use lib.Bits.{bitXor}
+use lib.ListN.{getD}
 use borrow.Author.Needs.{needs}
 use Rattle.octets.proofs.Tables.{byte, Filled, filled-none, filled-more, filled-all}
-use Rattle.aes.specs.Round.{byteAt, mixColumns}
-use Rattle.aes.proofs.Mixing.{foldByte, mix-folded}
+use Rattle.aes.specs.Field.{double}
+use Rattle.aes.specs.Round.{mixColumns}
+use Rattle.aes.proofs.Mixing.{folded-is, mix-folded}
 use Rattle.aes.proofs.inv_mix_columns.Statement.{statement}
 use Rattle.aes.proofs.inv_mix_columns.Tie as tie
 
 abbrev Inv-loop : tie.InvT-loop
-Inv-loop block folded₀ i₀ folded i = Filled (λ k. foldByte (byteAt block (k % 4) (k / 4)) 0 (byteAt block ((k + 2) % 4) (k / 4)) 0) 16 folded i
+Inv-loop block third folded₀ i₀ folded i = Filled (λ k. bitXor (getD block k 0) (double (double (bitXor (getD block k 0) (getD third k 0))))) 16 folded i
 
 abbrev μ-loop : tie.MeasureT-loop
-μ-loop block folded₀ i₀ folded i = 16 - i
+μ-loop block third folded₀ i₀ folded i = 16 - i
+
+turn-columns-requires : tie.Need-turn-columns-requires Inv-loop μ-loop
+turn-columns-requires c κs = search needs
 
 loop-holds : tie.Need-loop-holds Inv-loop μ-loop
 loop-holds c = filled-none refl
 
-mul-top : tie.Need-mul-top Inv-loop μ-loop
-mul-top c = search needs
-
-add-fold-byte : tie.Need-add-fold-byte Inv-loop μ-loop
-add-fold-byte c = search needs
-
 array-read-fold-byte : tie.Need-array-read-fold-byte Inv-loop μ-loop
 array-read-fold-byte c = search needs
-
-add-fold-byte-2 : tie.Need-add-fold-byte-2 Inv-loop μ-loop
-add-fold-byte-2 c = search needs
-
-add-fold-byte-3 : tie.Need-add-fold-byte-3 Inv-loop μ-loop
-add-fold-byte-3 c = search needs
 
 array-read-fold-byte-2 : tie.Need-array-read-fold-byte-2 Inv-loop μ-loop
 array-read-fold-byte-2 c = search needs
@@ -53,7 +47,10 @@ mix-columns-requires : tie.Need-mix-columns-requires Inv-loop μ-loop
 mix-columns-requires c κs = search needs
 
 returns : tie.Need-returns Inv-loop μ-loop
-returns c = c .mix-columns .ensures ∙ ap mixColumns (filled-all (c .before .before .loop .inv) (search needs)) ∙ mix-folded (record { at = λ i. byte (search needs) })
+returns c = let block = c .before .before .before .before .args .t1 in
+    let third = c .before .before .before .turn-columns .ensures in
+    let filled = rw third at (filled-all (c .before .before .loop .inv) (search needs)) in
+    c .mix-columns .ensures ∙ ap mixColumns (filled ∙ folded-is block) ∙ mix-folded (record { at = λ i. byte (search needs) })
 
 pub inv-mix-columns-spec : {M : Type 1} → statement M
 inv-mix-columns-spec =
@@ -61,12 +58,9 @@ inv-mix-columns-spec =
     (tie.spec
     Inv-loop
     μ-loop
+    turn-columns-requires
     loop-holds
-    mul-top
-    add-fold-byte
     array-read-fold-byte
-    add-fold-byte-2
-    add-fold-byte-3
     array-read-fold-byte-2
     fold-byte-requires
     array-write-folded

@@ -1,52 +1,39 @@
-use mathlib.Core.Path.{refl}
-use Prim.Native.Nat.{_+_, _-_, _/_, _%_}
+use mathlib.Core.Path.{refl, _∙_}
+use Prim.Native.Nat.{_-_}
+use lib.ListN.{getD}
 use borrow.Author.Needs.{needs}
+use Rattle.octets.specs.Octets.{table}
 use Rattle.octets.proofs.Tables.{Filled, filled-none, filled-more, filled-all}
-use Rattle.aes.specs.Round.{byteAt, mixByte, mixColumns}
+use Rattle.aes.specs.Round.{mixByte, mixColumns}
 use Rattle.aes.proofs.mix_columns.Statement.{statement}
 use Rattle.aes.proofs.mix_columns.Tie as tie
 
 abbrev Inv-loop : tie.InvT-loop
-Inv-loop block out₀ i₀ out i = Filled (λ k. mixByte (byteAt block (k % 4) (k / 4)) (byteAt block ((k + 1) % 4) (k / 4)) (byteAt block ((k + 2) % 4) (k / 4)) (byteAt block ((k + 3) % 4) (k / 4))) 16 out i
+Inv-loop block second third fourth out₀ i₀ out i = Filled (λ k. mixByte (getD block k 0) (getD second k 0) (getD third k 0) (getD fourth k 0)) 16 out i
 
 abbrev μ-loop : tie.MeasureT-loop
-μ-loop block out₀ i₀ out i = 16 - i
+μ-loop block second third fourth out₀ i₀ out i = 16 - i
+
+turn-columns-requires : tie.Need-turn-columns-requires Inv-loop μ-loop
+turn-columns-requires c κs = search needs
+
+turn-columns-requires-2 : tie.Need-turn-columns-requires-2 Inv-loop μ-loop
+turn-columns-requires-2 c κs = search needs
+
+turn-columns-requires-3 : tie.Need-turn-columns-requires-3 Inv-loop μ-loop
+turn-columns-requires-3 c κs = search needs
 
 loop-holds : tie.Need-loop-holds Inv-loop μ-loop
 loop-holds c = filled-none refl
 
-mul-top : tie.Need-mul-top Inv-loop μ-loop
-mul-top c = search needs
-
-add-mix-byte : tie.Need-add-mix-byte Inv-loop μ-loop
-add-mix-byte c = search needs
-
 array-read-mix-byte : tie.Need-array-read-mix-byte Inv-loop μ-loop
 array-read-mix-byte c = search needs
-
-add-mix-byte-2 : tie.Need-add-mix-byte-2 Inv-loop μ-loop
-add-mix-byte-2 c = search needs
-
-add-mix-byte-3 : tie.Need-add-mix-byte-3 Inv-loop μ-loop
-add-mix-byte-3 c = search needs
 
 array-read-mix-byte-2 : tie.Need-array-read-mix-byte-2 Inv-loop μ-loop
 array-read-mix-byte-2 c = search needs
 
-add-mix-byte-4 : tie.Need-add-mix-byte-4 Inv-loop μ-loop
-add-mix-byte-4 c = search needs
-
-add-mix-byte-5 : tie.Need-add-mix-byte-5 Inv-loop μ-loop
-add-mix-byte-5 c = search needs
-
 array-read-mix-byte-3 : tie.Need-array-read-mix-byte-3 Inv-loop μ-loop
 array-read-mix-byte-3 c = search needs
-
-add-mix-byte-6 : tie.Need-add-mix-byte-6 Inv-loop μ-loop
-add-mix-byte-6 c = search needs
-
-add-mix-byte-7 : tie.Need-add-mix-byte-7 Inv-loop μ-loop
-add-mix-byte-7 c = search needs
 
 array-read-mix-byte-4 : tie.Need-array-read-mix-byte-4 Inv-loop μ-loop
 array-read-mix-byte-4 c = search needs
@@ -67,8 +54,8 @@ loop-again : tie.Need-loop-again Inv-loop μ-loop
 loop-again c = filled-more (c .mix-byte .result) (c .before .before .loop .inv) (search needs) (c .mix-byte .ensures)
 
 returns : tie.Need-returns Inv-loop μ-loop
-unfolding mixColumns
-returns c = filled-all (c .before .loop .inv) (search needs)
+unfolding mixColumns table
+returns c = filled-all (c .before .loop .inv) (search needs) ∙ rw (c .before .before .turn-columns3 .ensures, c .before .before .before .turn-columns2 .ensures, c .before .before .before .before .turn-columns .ensures)
 
 pub mix-columns-spec : {M : Type 1} → statement M
 mix-columns-spec =
@@ -76,18 +63,13 @@ mix-columns-spec =
     (tie.spec
     Inv-loop
     μ-loop
+    turn-columns-requires
+    turn-columns-requires-2
+    turn-columns-requires-3
     loop-holds
-    mul-top
-    add-mix-byte
     array-read-mix-byte
-    add-mix-byte-2
-    add-mix-byte-3
     array-read-mix-byte-2
-    add-mix-byte-4
-    add-mix-byte-5
     array-read-mix-byte-3
-    add-mix-byte-6
-    add-mix-byte-7
     array-read-mix-byte-4
     mix-byte-requires
     array-write-out
