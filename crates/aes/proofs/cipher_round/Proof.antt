@@ -1,3 +1,5 @@
+-- `aes::cipher_round` meets its contract: the four steps; the lent table is that of the S-box (`by-table`).
+-- Assumes nothing.
 use borrow.Author.Needs.{needs}
 use Rattle.octets.specs.Octets.{Bytes}
 use Rattle.octets.proofs.Tables.{byte}

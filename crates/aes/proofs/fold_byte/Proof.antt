@@ -1,3 +1,5 @@
+-- `aes::fold_byte` meets its contract: by the contract of `double`, twice.
+-- Assumes nothing.
 use borrow.Author.Needs.{needs}
 use Rattle.aes.proofs.fold_byte.Statement.{statement}
 use Rattle.aes.proofs.fold_byte.Tie as tie

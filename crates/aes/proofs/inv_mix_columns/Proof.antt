@@ -1,3 +1,5 @@
+-- `aes::inv_mix_columns` meets its contract: the loop folds the columns; mixing them is inverse mixing (`mix-folded`).
+-- Assumes nothing.
 use mathlib.Core.Path.{refl, ap, _∙_}
 use Prim.Native.Nat.{_-_}
 use lib.Bits.{bitXor}

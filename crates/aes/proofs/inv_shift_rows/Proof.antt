@@ -1,3 +1,5 @@
+-- `aes::inv_shift_rows` meets its contract: a step of 13 is row r turned right by r, by computation.
+-- Assumes nothing.
 use borrow.Author.Needs.{needs}
 use Rattle.octets.specs.Octets.{table}
 use Rattle.aes.specs.Round.{invShiftRows}

@@ -1,3 +1,5 @@
+-- `aes::mix_byte` meets its contract: one doubling for 2•a ⊕ 3•b ⊕ c ⊕ d (`mix-by-double`).
+-- Assumes nothing.
 use borrow.Author.Needs.{needs}
 use Rattle.aes.proofs.Mixing.{mix-by-double}
 use Rattle.aes.proofs.mix_byte.Statement.{statement}

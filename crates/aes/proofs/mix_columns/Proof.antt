@@ -1,3 +1,5 @@
+-- `aes::mix_columns` meets its contract: the loop fills the block by `mix_byte`; the turned blocks are the columns turned, by computation.
+-- Assumes nothing.
 use mathlib.Core.Path.{refl, _∙_}
 use Prim.Native.Nat.{_-_}
 use lib.ListN.{getD}

@@ -1,3 +1,5 @@
+-- `aes::shift_rows` meets its contract: a step of 5 is row r turned left by r, by computation.
+-- Assumes nothing.
 use borrow.Author.Needs.{needs}
 use Rattle.octets.specs.Octets.{table}
 use Rattle.aes.specs.Round.{shiftRows}

@@ -1,3 +1,5 @@
+-- `aes::substitute` meets its contract: the loop fills the block with the entries; an index is a byte, so below 256.
+-- Assumes nothing.
 use mathlib.Core.Path.{refl}
 use Prim.Native.Nat.{_-_}
 use lib.ListN.{getD}

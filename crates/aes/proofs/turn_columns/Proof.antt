@@ -1,3 +1,5 @@
+-- `aes::turn_columns` meets its contract: the loop fills the block.
+-- Assumes nothing.
 use mathlib.Core.Path.{refl}
 use Prim.Native.Nat.{_+_, _-_, _/_, _%_}
 use borrow.Author.Needs.{needs}

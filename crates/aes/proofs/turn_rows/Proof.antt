@@ -1,3 +1,5 @@
+-- `aes::turn_rows` meets its contract: the loop fills the block; the product of two numbers below 16 fits.
+-- Assumes nothing.
 use mathlib.Core.Path.{refl}
 use Prim.Native.Nat.{ℕ, _-_, _*_, _%_, _<_}
 use native.Mathlib.Nat.{lt-of-le-of-lt, lt-of-lt-of-le, le-of-lt, mul-le-mul-left, mul-lt-mul-of-pos-right, zero-lt-suc}

@@ -1,3 +1,5 @@
+-- `deoxys::open` meets its contract: the four ways an opening can go: refused, tag of a wrong length, the tag is the computed one, it is not.
+-- Assumes nothing.
 use mathlib.Core.Path.{sym, _∙_}
 use native.Mathlib.Omega.{arith}
 use lib.Seq.{take-all}

@@ -1,3 +1,5 @@
+-- `deoxys::recover` meets its contract: the suite picks the mode; where nothing is refused, the lengths are what the mode requires.
+-- Assumes nothing.
 use mathlib.Core.Path.{refl}
 use borrow.Author.Needs.{needs}
 use Rattle.deoxys_bc.proofs.Tweakeys.{rounds-small}

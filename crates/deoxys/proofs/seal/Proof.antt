@@ -1,3 +1,5 @@
+-- `deoxys::seal` meets its contract: refused, or done.
+-- Assumes nothing.
 use mathlib.Core.Path.{sym, _∙_}
 use borrow.Author.Needs.{needs}
 use Rattle.octets.specs.Octets.{zeroBlock}

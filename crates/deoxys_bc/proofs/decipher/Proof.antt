@@ -1,3 +1,5 @@
+-- `deoxys_bc::decipher` meets its contract: what the equivalent inverse cipher has still to do, from where the loop stands, is what it had at first.
+-- Assumes nothing.
 use mathlib.Core.Path.{_≡_, refl}
 use Prim.Native.Nat.{suc, _-_, _≤_}
 use native.Mathlib.Omega.{arith}

@@ -1,3 +1,5 @@
+-- `deoxys_bc::encipher` meets its contract: after i turns the state is i rounds over the flat round keys, and these are the round keys.
+-- Assumes nothing.
 use mathlib.Core.Path.{_≡_, refl, _∙_}
 use Prim.Native.Nat.{_-_, _≤_}
 use native.Mathlib.Numerals.{add-one}

@@ -1,3 +1,5 @@
+-- `modes::absorb` meets its contract: one call, one XOR.
+-- Assumes nothing.
 use borrow.Author.Needs.{needs}
 use Rattle.modes.proofs.absorb.Statement.{statement}
 use Rattle.modes.proofs.absorb.Tie as tie

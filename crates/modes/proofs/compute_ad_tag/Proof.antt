@@ -1,3 +1,5 @@
+-- `modes::compute_ad_tag` meets its contract: Auth from a zero block and a count of 0.
+-- Assumes nothing.
 use mathlib.Core.Path.{_∙_}
 use native.Mathlib.Nat.{zero-add}
 use borrow.Author.Needs.{needs}

@@ -1,3 +1,5 @@
+-- `octets::clear` meets its contract: after i stores the slice is zero as far as byte i, and as it was from there.
+-- Assumes nothing.
 use mathlib.Core.Path.{_≡_}
 use Prim.Native.Nat.{_-_, _≤_}
 use native.Mathlib.Omega.{arith}

@@ -1,3 +1,5 @@
+-- `octets::pad` meets its contract: the loop copies the part over zeros, and the store after it sets 0x80.
+-- Assumes nothing.
 use mathlib.Core.Path.{_≡_, refl, ap, _∙_}
 use mathlib.Core.List.{List}
 use Prim.Native.Nat.{ℕ, _-_, _≤_}

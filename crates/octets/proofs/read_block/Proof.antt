@@ -1,3 +1,5 @@
+-- `octets::read_block` meets its contract: the loop fills the block with what stands from the place on.
+-- Assumes nothing.
 use mathlib.Core.Path.{refl, _∙_}
 use Prim.Native.Nat.{_+_, _-_}
 use lib.ListN.{getD}

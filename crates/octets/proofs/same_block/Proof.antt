@@ -1,3 +1,5 @@
+-- `octets::same_block` meets its contract: the difference stays 0 exactly as long as the bytes agree, and then the rest decides.
+-- Assumes nothing.
 use mathlib.Core.Path.{_≡_}
 use Prim.Native.Nat.{_-_, _≤_}
 use native.Mathlib.Omega.{arith}

@@ -1,3 +1,5 @@
+-- `octets::write_block` meets its contract: after i stores the slice is the target as far as byte i, and as it was from there.
+-- Assumes nothing.
 use mathlib.Core.Path.{_≡_, refl}
 use mathlib.Core.List.{_++_}
 use Prim.Native.Nat.{_+_, _-_, _≤_}

@@ -1,3 +1,5 @@
+-- `octets::xor_block` meets its contract: the loop fills the block with the XOR of the two bytes at each place.
+-- Assumes nothing.
 use mathlib.Core.Path.{refl, _∙_}
 use Prim.Native.Nat.{_-_}
 use lib.Bits.{bitXor}

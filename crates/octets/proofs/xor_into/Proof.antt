@@ -1,3 +1,5 @@
+-- `octets::xor_into` meets its contract: after i stores the part is the XOR as far as byte i, and as it was from there.
+-- Assumes nothing.
 use mathlib.Core.Path.{_≡_, sym}
 use Prim.Native.Nat.{_-_, _≤_}
 use native.Mathlib.Omega.{arith}

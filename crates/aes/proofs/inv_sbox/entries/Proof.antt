@@ -1,3 +1,5 @@
+-- `aes::inv_sbox::entries` meets its contract: THE test of the table: each entry is the inverse of the affine rule undone at its place.
+-- Assumes nothing.
 use mathlib.Core.Path.{refl, sym, _∙_}
 use lib.ListN.{getD}
 use Rattle.octets.proofs.Tables.{table-tested, table-eq}

@@ -1,3 +1,5 @@
+-- `aes::sbox::entries` meets its contract: THE test of the table: each entry is the affine rule of the inverse of its place.
+-- Assumes nothing.
 use mathlib.Core.Path.{refl, sym, _∙_}
 use lib.ListN.{getD}
 use Rattle.octets.proofs.Tables.{table-tested, table-eq}

@@ -1,3 +1,5 @@
+-- `deoxys::suites::key_length` meets its contract: by the tests.
+-- Assumes nothing.
 use borrow.Author.Tests.{eq-eqb, ne-eqb}
 use Rattle.deoxys.proofs.suites.key_length.Statement.{statement}
 use Rattle.deoxys.proofs.suites.key_length.Tie as tie

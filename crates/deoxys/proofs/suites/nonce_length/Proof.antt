@@ -1,3 +1,5 @@
+-- `deoxys::suites::nonce_length` meets its contract: by the test.
+-- Assumes nothing.
 use borrow.Author.Tests.{le-leb, lt-leb}
 use Rattle.deoxys.proofs.suites.nonce_length.Statement.{statement}
 use Rattle.deoxys.proofs.suites.nonce_length.Tie as tie

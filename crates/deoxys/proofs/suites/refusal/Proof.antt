@@ -1,3 +1,5 @@
+-- `deoxys::suites::refusal` meets its contract: each return is the first refusal that applies, in the order of document 01.
+-- Assumes nothing.
 use mathlib.Core.Path.{sym, _∙_}
 use borrow.Author.Needs.{needs}
 use Rattle.deoxys.proofs.Refusals.{no-suite-0, no-suite, wrong-key, wrong-nonce, long-data, long-text, none}

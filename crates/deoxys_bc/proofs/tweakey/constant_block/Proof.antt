@@ -1,3 +1,5 @@
+-- `deoxys_bc::tweakey::constant_block` meets its contract: the lent table is that of the round constants.
+-- Assumes nothing.
 use borrow.Author.Needs.{needs}
 use Rattle.octets.proofs.Tables.{table-at}
 use Rattle.deoxys_bc.specs.Tweakey.{roundConstant, constantBlock}

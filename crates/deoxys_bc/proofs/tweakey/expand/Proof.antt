@@ -1,3 +1,5 @@
+-- `deoxys_bc::tweakey::expand` meets its contract: after i turns i key parts lie end to end, and TK3 and TK2 have taken i steps; here the round constants are tested, once.
+-- Assumes nothing.
 use mathlib.Core.Path.{_≡_, refl, _∙_}
 use Prim.Native.Nat.{_+_, _-_, _≤_}
 use native.Mathlib.Omega.{arith}

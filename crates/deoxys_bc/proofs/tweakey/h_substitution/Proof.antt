@@ -1,3 +1,5 @@
+-- `deoxys_bc::tweakey::h_substitution` meets its contract: the loop fills the block; the lent places are below 16.
+-- Assumes nothing.
 use mathlib.Core.Path.{refl}
 use Prim.Native.Nat.{_-_}
 use native.Mathlib.Nat.{lt-of-lt-of-le}

@@ -1,3 +1,5 @@
+-- `deoxys_bc::tweakey::key_schedule` meets its contract: after i turns i round keys lie end to end, and the tweak has taken i steps.
+-- Assumes nothing.
 use mathlib.Core.Path.{_≡_, refl, ap, _∙_}
 use Prim.Native.Nat.{ℕ, _+_, _-_, _≤_}
 use native.Mathlib.Omega.{arith}

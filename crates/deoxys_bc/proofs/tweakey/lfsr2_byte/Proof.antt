@@ -1,3 +1,5 @@
+-- `deoxys_bc::tweakey::lfsr2_byte` meets its contract: by one test over the bytes.
+-- Assumes nothing.
 use Prim.Native.Nat.{_*_, _/_, _%_}
 use lib.Bits.{bitOr, bitAnd, bitXor}
 use borrow.Author.Needs.{needs}

@@ -1,3 +1,5 @@
+-- `deoxys_bc::tweakey::lfsr3` meets its contract: the loop fills the block.
+-- Assumes nothing.
 use mathlib.Core.Path.{refl}
 use Prim.Native.Nat.{_-_}
 use lib.ListN.{getD}

@@ -1,3 +1,5 @@
+-- `modes::deoxys_i::checksum` meets its contract: what is left to add from where the loop stands gives what there was at first.
+-- Assumes nothing.
 use mathlib.Core.Path.{_≡_, refl}
 use Prim.Native.Nat.{_-_, _≤_}
 use native.Mathlib.Nat.{sub-zero}

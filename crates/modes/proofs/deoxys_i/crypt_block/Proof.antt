@@ -1,3 +1,5 @@
+-- `modes::deoxys_i::crypt_block` meets its contract: a call each way.
+-- Assumes nothing.
 use mathlib.Core.Path.{_∙_}
 use borrow.Author.Needs.{needs}
 use Rattle.modes.proofs.deoxys_i.crypt_block.Statement.{statement}

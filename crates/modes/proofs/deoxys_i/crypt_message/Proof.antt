@@ -1,3 +1,5 @@
+-- `modes::deoxys_i::crypt_message` meets its contract: what is still to do of the buffer, from where the loop stands, gives what there was to do at first.
+-- Assumes nothing.
 use mathlib.Core.Path.{_≡_, refl, _∙_}
 use Prim.Native.Nat.{_+_, _-_, _≤_}
 use native.Mathlib.Omega.{arith}

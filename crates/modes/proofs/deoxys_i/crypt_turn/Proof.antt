@@ -1,3 +1,5 @@
+-- `modes::deoxys_i::crypt_turn` meets its contract: read, call, write.
+-- Assumes nothing.
 use mathlib.Core.Path.{refl}
 use borrow.Author.Needs.{needs}
 use Rattle.modes.proofs.deoxys_i.crypt_turn.Statement.{statement}

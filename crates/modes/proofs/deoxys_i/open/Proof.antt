@@ -1,3 +1,5 @@
+-- `modes::deoxys_i::open` meets its contract: the parts make the definition's outcome (`opened-i`); the counts fit by the row counts.
+-- Assumes nothing.
 use mathlib.Core.Bool.{true}
 use native.Mathlib.Omega.{arith}
 use borrow.Author.Needs.{needs}

@@ -1,3 +1,5 @@
+-- `modes::deoxys_i::seal` meets its contract: the parts make the definition's outcome (`sealed-i`); the counts fit by the row counts.
+-- Assumes nothing.
 use mathlib.Core.Bool.{false}
 use native.Mathlib.Omega.{arith}
 use borrow.Author.Needs.{needs}

@@ -1,3 +1,5 @@
+-- `modes::deoxys_i::tag` meets its contract: one call; the kind is below 16.
+-- Assumes nothing.
 use mathlib.Core.Bool.{Bool, true, false}
 use Prim.Native.Nat.{_%_, _<_}
 use lib.Dec.{eqb, lit<}

@@ -1,3 +1,5 @@
+-- `modes::deoxys_i::tag_kind` meets its contract: by the test.
+-- Assumes nothing.
 use borrow.Author.Tests.{eq-eqb, ne-eqb}
 use Rattle.modes.proofs.deoxys_i.tag_kind.Statement.{statement}
 use Rattle.modes.proofs.deoxys_i.tag_kind.Tie as tie

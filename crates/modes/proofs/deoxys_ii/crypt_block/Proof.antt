@@ -1,3 +1,5 @@
+-- `modes::deoxys_ii::crypt_block` meets its contract: one call; the length of its block is that of the array.
+-- Assumes nothing.
 use mathlib.Core.Path.{_≡_, ap, _∙_}
 use mathlib.Core.List.{List}
 use Prim.Native.Nat.{ℕ}

@@ -1,3 +1,5 @@
+-- `modes::deoxys_ii::open` meets its contract: the parts make the definition's outcome (`opened-ii`); the counts fit by the row counts.
+-- Assumes nothing.
 use mathlib.Core.Path.{refl}
 use native.Mathlib.Omega.{arith}
 use borrow.Author.Needs.{needs}

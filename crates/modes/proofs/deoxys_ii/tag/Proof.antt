@@ -1,3 +1,5 @@
+-- `modes::deoxys_ii::tag` meets its contract: one call.
+-- Assumes nothing.
 use borrow.Author.Needs.{needs}
 use Rattle.modes.proofs.deoxys_ii.tag.Statement.{statement}
 use Rattle.modes.proofs.deoxys_ii.tag.Tie as tie

@@ -1,3 +1,5 @@
+-- `modes::tweaks::keystream_tweak` meets its contract: the top bit by a test over the bytes, then one XOR.
+-- Assumes nothing.
 use mathlib.Core.Path.{_≡_}
 use native.Mathlib.Omega.{arith}
 use lib.ListN.{length}

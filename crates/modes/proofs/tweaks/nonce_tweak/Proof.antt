@@ -1,3 +1,5 @@
+-- `modes::tweaks::nonce_tweak` meets its contract: after j stores j bytes are packed and one half byte is left over.
+-- Assumes nothing.
 use mathlib.Core.Path.{_≡_, refl, sym}
 use Prim.Native.Nat.{_-_, _≤_, _<_}
 use native.Mathlib.Nat.{mod-lt, zero-lt-suc}

@@ -1,3 +1,5 @@
+-- `modes::tweaks::numbered` meets its contract: the bytes of the number are the definition's, by computation.
+-- Assumes nothing.
 use native.Mathlib.Nat.{div-one}
 use borrow.Author.Needs.{needs}
 use Rattle.octets.specs.Octets.{bigEndian}

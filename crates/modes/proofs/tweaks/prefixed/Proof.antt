@@ -1,3 +1,5 @@
+-- `modes::tweaks::prefixed` meets its contract: after i stores the first byte and i bytes of the nonce are in place.
+-- Assumes nothing.
 use mathlib.Core.Path.{_≡_, refl}
 use mathlib.Core.List.{_∷_}
 use Prim.Native.Nat.{_+_, _-_, _≤_}
