@@ -1,6 +1,7 @@
 // Sealing and opening in place, for any suite number and any bytes: the entry routines of the crate's `src/lib.rs`.
 ghost use mathlib.Core.Path.{_≡_};
 ghost use lib.ListN.{length};
+ghost use Rattle.modes.specs.Rows.{answered};
 ghost use Rattle.deoxys.specs.Suites.{refusal};
 ghost use Rattle.deoxys.specs.Entry.{Sealing, Opening, sealed, opened, sealing, opening};
 
@@ -28,10 +29,7 @@ const WRONG_TAG: u8 = 7;
 // The ciphertext and its tag, where nothing is refused.
 fn protect(suite: u8, key: &[u8], nonce: &[u8], ad: &[u8], buffer: &mut [u8]) -> modes::Tagged
     requires { ⌜ refusal suite (length (now key)) (length (now nonce)) (length (now ad)) (length (now buffer)) ≡ 0 ⌝ }
-    ensures { λ r. ⌜ r ≡ record {
-      tag = sealed suite (now (key .entry)) (now (nonce .entry)) (now (ad .entry)) (now (buffer .entry)) .tag;
-      count = record { rows = length (sealed suite (now (key .entry)) (now (nonce .entry)) (now (ad .entry)) (now (buffer .entry)) .rows) };
-    } ⌝ }
+    ensures { λ r. ⌜ r ≡ answered (sealed suite (now (key .entry)) (now (nonce .entry)) (now (ad .entry)) (now (buffer .entry))) ⌝ }
     ensures { λ r. ⌜ now (buffer .exit) ≡ sealed suite (now (key .entry)) (now (nonce .entry)) (now (ad .entry)) (now (buffer .entry)) .text ⌝ }
 {
     let k = deoxys_bc::tweakey::precompute_subkeys(key);
@@ -73,10 +71,7 @@ fn recover(
     tag: [u8; 16],
 ) -> modes::Tagged
     requires { ⌜ refusal suite (length (now key)) (length (now nonce)) (length (now ad)) (length (now buffer)) ≡ 0 ⌝ }
-    ensures { λ r. ⌜ r ≡ record {
-      tag = opened suite (now (key .entry)) (now (nonce .entry)) (now (ad .entry)) (now (buffer .entry)) tag .tag;
-      count = record { rows = length (opened suite (now (key .entry)) (now (nonce .entry)) (now (ad .entry)) (now (buffer .entry)) tag .rows) };
-    } ⌝ }
+    ensures { λ r. ⌜ r ≡ answered (opened suite (now (key .entry)) (now (nonce .entry)) (now (ad .entry)) (now (buffer .entry)) tag) ⌝ }
     ensures { λ r. ⌜ now (buffer .exit) ≡ opened suite (now (key .entry)) (now (nonce .entry)) (now (ad .entry)) (now (buffer .entry)) tag .text ⌝ }
 {
     let k = deoxys_bc::tweakey::precompute_subkeys(key);

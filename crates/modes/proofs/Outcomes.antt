@@ -11,14 +11,10 @@ use Rattle.octets.specs.Octets.{pick, _⊕_, zeroBlock}
 use Rattle.deoxys_bc.specs.Cipher.{encipher}
 use Rattle.deoxys_bc.specs.declared.Subkeys.{Subkeys}
 use Rattle.modes.specs.Tweaks.{nonceTweak}
-use Rattle.modes.specs.Rows.{Row, Outcome, dataRows, absorbed}
+use Rattle.modes.specs.Rows.{Row, answered, dataRows, absorbed}
 use Rattle.modes.specs.DeoxysI.{checksum, direction, cryptRows, crypted, sealI, openI}
 use Rattle.modes.specs.DeoxysII as II
 use Rattle.modes.specs.declared.Tagged.{Tagged}
-
--- what a mode answers with
-abbrev pub answered : Outcome → Tagged
-answered o = record { tag = o .tag; count = record { rows = length (o .rows) } }
 
 abbrev answer : List ℕ → ℕ → Tagged
 answer tag rows = record { tag = tag; count = record { rows = rows } }

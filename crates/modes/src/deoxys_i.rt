@@ -7,6 +7,7 @@ ghost use lib.ListN.{length, take, drop};
 ghost use Rattle.octets.specs.Octets.{pick, _⊕_};
 ghost use Rattle.deoxys_bc.specs.Cipher.{encipher};
 ghost use Rattle.modes.specs.Tweaks.{nonceTweak};
+ghost use Rattle.modes.specs.Rows.{answered};
 ghost use Rattle.modes.specs.DeoxysI.{checksum, direction, cryptRows, crypted, sealI, openI};
 use crate::Tagged;
 use crate::tweaks;
@@ -132,10 +133,7 @@ fn tag(
 // The crate's `encrypt_inout` of Deoxys-I.
 pub fn seal(k: Subkeys, nonce: &[u8], ad: &[u8], buffer: &mut [u8]) -> Tagged
     requires { ⌜ (k .rounds ≤ 16) × (length (now nonce) ≡ 8) × (length (now ad) ≤ 1048576) × (length (now buffer) ≤ 1048576) ⌝ }
-    ensures { λ r. ⌜ r ≡ record {
-      tag = sealI k (now (nonce .entry)) (now (ad .entry)) (now (buffer .entry)) .tag;
-      count = record { rows = length (sealI k (now (nonce .entry)) (now (ad .entry)) (now (buffer .entry)) .rows) };
-    } ⌝ }
+    ensures { λ r. ⌜ r ≡ answered (sealI k (now (nonce .entry)) (now (ad .entry)) (now (buffer .entry))) ⌝ }
     ensures { λ r. ⌜ now (buffer .exit) ≡ sealI k (now (nonce .entry)) (now (ad .entry)) (now (buffer .entry)) .text ⌝ }
 {
     let tally = crate::compute_ad_tag(k, ad);
@@ -149,10 +147,7 @@ pub fn seal(k: Subkeys, nonce: &[u8], ad: &[u8], buffer: &mut [u8]) -> Tagged
 // The crate's `decrypt_inout` of Deoxys-I, up to the comparison: the tag is the one computed.
 pub fn open(k: Subkeys, nonce: &[u8], ad: &[u8], buffer: &mut [u8]) -> Tagged
     requires { ⌜ (k .rounds ≤ 16) × (length (now nonce) ≡ 8) × (length (now ad) ≤ 1048576) × (length (now buffer) ≤ 1048576) ⌝ }
-    ensures { λ r. ⌜ r ≡ record {
-      tag = openI k (now (nonce .entry)) (now (ad .entry)) (now (buffer .entry)) .tag;
-      count = record { rows = length (openI k (now (nonce .entry)) (now (ad .entry)) (now (buffer .entry)) .rows) };
-    } ⌝ }
+    ensures { λ r. ⌜ r ≡ answered (openI k (now (nonce .entry)) (now (ad .entry)) (now (buffer .entry))) ⌝ }
     ensures { λ r. ⌜ now (buffer .exit) ≡ openI k (now (nonce .entry)) (now (ad .entry)) (now (buffer .entry)) .text ⌝ }
 {
     let tally = crate::compute_ad_tag(k, ad);

@@ -6,7 +6,7 @@ ghost use lib.ListN.{length};
 ghost use Rattle.octets.specs.Octets.{_⊕_};
 ghost use Rattle.deoxys_bc.specs.Cipher.{encipher};
 ghost use Rattle.modes.specs.Tweaks.{keystreamTweak};
-ghost use Rattle.modes.specs.Rows.{absorbed};
+ghost use Rattle.modes.specs.Rows.{answered, absorbed};
 ghost use Rattle.modes.specs.DeoxysII.{messageRows, keystreamRows, crypted, sealII, openII};
 use crate::Tagged;
 use crate::Tally;
@@ -97,10 +97,7 @@ fn encrypt_decrypt_message(
 // The crate's `encrypt_inout` of Deoxys-II.
 pub fn seal(k: Subkeys, nonce: &[u8], ad: &[u8], buffer: &mut [u8]) -> Tagged
     requires { ⌜ (k .rounds ≤ 16) × (length (now nonce) ≡ 15) × (length (now ad) ≤ 1048576) × (length (now buffer) ≤ 1048576) ⌝ }
-    ensures { λ r. ⌜ r ≡ record {
-      tag = sealII k (now (nonce .entry)) (now (ad .entry)) (now (buffer .entry)) .tag;
-      count = record { rows = length (sealII k (now (nonce .entry)) (now (ad .entry)) (now (buffer .entry)) .rows) };
-    } ⌝ }
+    ensures { λ r. ⌜ r ≡ answered (sealII k (now (nonce .entry)) (now (ad .entry)) (now (buffer .entry))) ⌝ }
     ensures { λ r. ⌜ now (buffer .exit) ≡ sealII k (now (nonce .entry)) (now (ad .entry)) (now (buffer .entry)) .text ⌝ }
 {
     let tally = authenticate_message(k, buffer, crate::compute_ad_tag(k, ad));
@@ -114,10 +111,7 @@ pub fn seal(k: Subkeys, nonce: &[u8], ad: &[u8], buffer: &mut [u8]) -> Tagged
 // The crate's `decrypt_inout` of Deoxys-II, up to the comparison: the keystream is the given tag's, the tag the one computed.
 pub fn open(k: Subkeys, nonce: &[u8], ad: &[u8], buffer: &mut [u8], given: [u8; 16]) -> Tagged
     requires { ⌜ (k .rounds ≤ 16) × (length (now nonce) ≡ 15) × (length (now ad) ≤ 1048576) × (length (now buffer) ≤ 1048576) ⌝ }
-    ensures { λ r. ⌜ r ≡ record {
-      tag = openII k (now (nonce .entry)) (now (ad .entry)) (now (buffer .entry)) given .tag;
-      count = record { rows = length (openII k (now (nonce .entry)) (now (ad .entry)) (now (buffer .entry)) given .rows) };
-    } ⌝ }
+    ensures { λ r. ⌜ r ≡ answered (openII k (now (nonce .entry)) (now (ad .entry)) (now (buffer .entry)) given) ⌝ }
     ensures { λ r. ⌜ now (buffer .exit) ≡ openII k (now (nonce .entry)) (now (ad .entry)) (now (buffer .entry)) given .text ⌝ }
 {
     let tally = crate::compute_ad_tag(k, ad);
