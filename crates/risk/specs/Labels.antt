@@ -1,0 +1,45 @@
+-- The labels of a sealing's rows, from the suite and the two lengths alone: document 01, "Rows".
+-- A label's kind is 0 for data, 1 for message, 2 for the tag, 3 for keystream; 4 stands past the last row.
+-- Assumes nothing.
+use mathlib.Core.Bool.{true, false}
+use mathlib.Core.List.{List, [], _∷_, _++_}
+use Prim.Native.Nat.{ℕ, zero, suc, _+_, _*_, _/_}
+use lib.Dec.{eqb, ltb}
+use Rattle.octets.specs.Octets.{pick}
+use Rattle.deoxys.specs.Suites.{isDeoxysI, keyLength, nonceLength, refusal}
+use Rattle.risk.specs.declared.Label.{Label}
+
+-- the number of blocks of so many bytes, a partial one counted
+abbrev pub blocks : ℕ → ℕ
+blocks bytes = (bytes + 15) / 16
+
+-- block i of a text of so many bytes: partial where the text ends before the block does
+abbrev pub blockLabel : ℕ → ℕ → ℕ → Label
+blockLabel kind bytes i = record { kind = kind; number = i; partial = ltb bytes (16 * i + 16) }
+
+-- n blocks of it, from number i on
+unfoldable pub blockLabels : ℕ → ℕ → ℕ → ℕ → List Label
+blockLabels kind bytes zero i = []
+blockLabels kind bytes (suc n) i = blockLabel kind bytes i ∷ blockLabels kind bytes n (i + 1)
+
+abbrev pub textLabels : ℕ → ℕ → List Label
+textLabels kind bytes = blockLabels kind bytes (blocks bytes) 0
+
+abbrev pub tagLabel : Label
+tagLabel = record { kind = 2; number = 0; partial = false }
+
+-- data, message, tag, and in Deoxys-II the keystream: a block of it for each block of the message, partial where that is
+unfoldable pub labels : ℕ → ℕ → ℕ → List Label
+labels suite adBytes messageBytes =
+    textLabels 0 adBytes ++ (textLabels 1 messageBytes ++ (tagLabel ∷ pick (isDeoxysI suite) [] (textLabels 3 messageBytes)))
+
+-- the number by which document 01 refuses such a suite and lengths, with a key and a nonce that fit, or 0
+abbrev pub refused : ℕ → ℕ → ℕ → ℕ
+refused suite adBytes messageBytes = refusal suite (keyLength suite) (nonceLength suite) adBytes messageBytes
+
+-- the risk table: a label for each row, and none where the sealing is refused
+unfoldable pub riskTable : ℕ → ℕ → ℕ → List Label
+riskTable suite adBytes messageBytes = pick (eqb (refused suite adBytes messageBytes) 0) (labels suite adBytes messageBytes) []
+
+abbrev pub noRow : Label
+noRow = record { kind = 4; number = 0; partial = false }

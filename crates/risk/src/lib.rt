@@ -1,0 +1,108 @@
+// The risk table of a sealing: what each block cipher call is for, from the suite and the two lengths alone.
+ghost use mathlib.Core.Path.{_≡_};
+ghost use Prim.Native.Nat.{_+_, _*_, _<_, _≤_};
+ghost use lib.ListN.{length, getD};
+ghost use Rattle.risk.specs.Labels.{blocks, blockLabel, refused, riskTable, noRow};
+
+pub const DATA: u8 = 0;
+
+pub const MESSAGE: u8 = 1;
+
+pub const TAG: u8 = 2;
+
+pub const KEYSTREAM: u8 = 3;
+
+pub const NO_ROW: u8 = 4;
+
+const LIMIT: usize = 1048576;
+
+// What a row is for, its block number, and whether its block of text is partial.
+pub struct Label {
+    pub kind: u8,
+    pub number: usize,
+    pub partial: bool,
+}
+
+// The number by which a sealing with a key and a nonce that fit is refused, or 0.
+pub fn refusal(suite: u8, ad: usize, message: usize) -> u8
+    ensures { λ r. ⌜ r ≡ refused suite ad message ⌝ }
+{
+    if suite == 0 {
+        return 1;
+    }
+    if 4 < suite {
+        return 1;
+    }
+    if LIMIT < ad {
+        return 4;
+    }
+    if LIMIT < message {
+        return 5;
+    }
+    0
+}
+
+// A partial block is counted.
+fn blocks(bytes: usize) -> usize
+    requires { ⌜ bytes ≤ 1048576 ⌝ }
+    ensures { λ r. ⌜ r ≡ blocks bytes ⌝ }
+{
+    (bytes + 15) / 16
+}
+
+// How many rows the sealing has.
+pub fn rows(suite: u8, ad: usize, message: usize) -> usize
+    ensures { λ r. ⌜ r ≡ length (riskTable suite ad message) ⌝ }
+{
+    if refusal(suite, ad, message) != 0 {
+        return 0;
+    }
+    let a = blocks(ad);
+    let m = blocks(message);
+    if suite <= 2 {
+        return a + m + 1;
+    }
+    a + 2 * m + 1
+}
+
+// Block i of a text of so many bytes.
+fn block_label(kind: u8, bytes: usize, i: usize) -> Label
+    requires { ⌜ i ≤ 1048576 ⌝ }
+    ensures { λ r. ⌜ r ≡ blockLabel kind bytes i ⌝ }
+{
+    Label {
+        kind,
+        number: i,
+        partial: bytes < 16 * i + 16,
+    }
+}
+
+// Row i of the table, counted from zero. Past its end stands NO_ROW.
+pub fn row(suite: u8, ad: usize, message: usize, i: usize) -> Label
+    ensures { λ r. ⌜ r ≡ getD (riskTable suite ad message) i noRow ⌝ }
+{
+    if rows(suite, ad, message) <= i {
+        return Label {
+            kind: NO_ROW,
+            number: 0,
+            partial: false,
+        };
+    }
+    let a = blocks(ad);
+    if i < a {
+        return block_label(DATA, ad, i);
+    }
+    let m = blocks(message);
+    let j = i - a;
+    if j < m {
+        return block_label(MESSAGE, message, j);
+    }
+    if j == m {
+        return Label {
+            kind: TAG,
+            number: 0,
+            partial: false,
+        };
+    }
+    block_label(KEYSTREAM, message, j - m - 1)
+}
