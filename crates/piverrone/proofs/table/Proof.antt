@@ -1,0 +1,65 @@
+use Prim.Native.Nat.{_-_}
+use borrow.Author.Needs.{needs}
+use Rattle.piverrone.proofs.table.Statement.{statement}
+use Rattle.piverrone.proofs.table.Tie as tie
+
+abbrev Inv-loop : tie.InvT-loop
+Inv-loop suite ad message n i₀ t6 i = Unit {0}
+
+abbrev μ-loop : tie.MeasureT-loop
+μ-loop suite ad message n i₀ t6 i = n - i
+
+rows-requires : tie.Need-rows-requires Inv-loop μ-loop
+rows-requires c κs = search needs
+
+loop-holds : tie.Need-loop-holds Inv-loop μ-loop
+loop-holds c = search needs
+
+add-row : tie.Need-add-row Inv-loop μ-loop
+add-row c = search needs
+
+row-requires : tie.Need-row-requires Inv-loop μ-loop
+row-requires c κs = search needs
+
+row-requires-2 : tie.Need-row-requires-2 Inv-loop μ-loop
+row-requires-2 c κs = search needs
+
+returns : tie.Need-returns Inv-loop μ-loop
+returns c = search needs
+
+add-i : tie.Need-add-i Inv-loop μ-loop
+add-i c = search needs
+
+loop-less : tie.Need-loop-less Inv-loop μ-loop
+loop-less c = search needs
+
+loop-again : tie.Need-loop-again Inv-loop μ-loop
+loop-again c = search needs
+
+slice-aggregate-done : tie.Need-slice-aggregate-done Inv-loop μ-loop
+slice-aggregate-done c = search needs
+
+done-requires : tie.Need-done-requires Inv-loop μ-loop
+done-requires c κs = search needs
+
+returns-2 : tie.Need-returns-2 Inv-loop μ-loop
+returns-2 c = search needs
+
+pub table-spec : {M : Type 1} → statement M
+table-spec =
+    tie.close
+    (tie.spec
+    Inv-loop
+    μ-loop
+    rows-requires
+    loop-holds
+    add-row
+    row-requires
+    row-requires-2
+    returns
+    add-i
+    loop-less
+    loop-again
+    slice-aggregate-done
+    done-requires
+    returns-2)

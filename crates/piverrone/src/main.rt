@@ -1,0 +1,118 @@
+// Seals and opens files, and prints the risk table of a sealing.
+//
+// No program has an exit status here. What was done is told on standard output, and what was not on
+// standard error. The file OUT is written only where the answer is 0.
+mod files;
+mod numbers;
+mod parcel;
+mod words;
+
+// A byte more than the longest key and nonce, so that the library sees that a file is too long.
+const KEY_SPACE: usize = 33;
+
+const NONCE_SPACE: usize = 16;
+
+fn main() {
+    let mut space = io::buffer();
+    let n = os::arg(1, &mut space);
+    let command = words::command(&space[..n]);
+    let count = os::arg_count();
+    if command == words::SEAL && count == 8 {
+        seal_or_open(false);
+    } else if command == words::OPEN && count == 8 {
+        seal_or_open(true);
+    } else if command == words::ROWS && count == 5 {
+        rows();
+    } else {
+        words::usage();
+    }
+}
+
+// Reads the key, the nonce, the data and the text, and goes on with what they hold.
+fn seal_or_open(opening: bool) {
+    let mut key = [0u8; KEY_SPACE];
+    let mut nonce = [0u8; NONCE_SPACE];
+    let mut ad = files::large_space();
+    let mut text = files::large_space();
+    let k = files::read_named(3, &mut key);
+    let n = files::read_named(4, &mut nonce);
+    let a = files::read_named(5, &mut ad);
+    let t = files::read_named(6, &mut text);
+    if !k.whole || !n.whole || !a.whole || !t.whole {
+        return;
+    }
+    let ke = k.count;
+    let ne = n.count;
+    let ae = a.count;
+    let te = t.count;
+    let suite = numbers::suite_named(2);
+    work(
+        opening,
+        suite,
+        &key[..ke],
+        &nonce[..ne],
+        &ad[..ae],
+        &mut text[..te],
+    );
+}
+
+fn work(opening: bool, suite: u8, key: &[u8], nonce: &[u8], ad: &[u8], text: &mut [u8]) {
+    if opening {
+        open(suite, key, nonce, ad, text);
+    } else {
+        seal(suite, key, nonce, ad, text);
+    }
+}
+
+// OUT is the ciphertext and then the tag.
+fn seal(suite: u8, key: &[u8], nonce: &[u8], ad: &[u8], text: &mut [u8]) {
+    let sealed = deoxys::seal(suite, key, nonce, ad, text);
+    if sealed.number != 0 {
+        words::refused(sealed.number);
+        return;
+    }
+    let tag = sealed.tag;
+    if files::write_named(7, text, &tag) {
+        words::done(b"sealed, ", sealed.rows);
+    }
+}
+
+// OUT is the message.
+fn open(suite: u8, key: &[u8], nonce: &[u8], ad: &[u8], text: &mut [u8]) {
+    let at = parcel::tag_at(text.len());
+    let opened = parcel::open(suite, key, nonce, ad, text);
+    if opened.number != 0 {
+        words::refused(opened.number);
+        return;
+    }
+    if files::write_named(7, &text[..at], b"") {
+        words::done(b"opened, ", opened.rows);
+    }
+}
+
+// A line for each block cipher call of a sealing, and their number.
+fn table(suite: u8, ad: usize, message: usize) {
+    let n = risk::rows(suite, ad, message);
+    for i in 0..n {
+        if !words::row(i + 1, risk::row(suite, ad, message, i)) {
+            return;
+        }
+    }
+    words::done(b"", n);
+}
+
+fn rows() {
+    let ad = numbers::number_named(3);
+    let message = numbers::number_named(4);
+    if !ad.valid || !message.valid {
+        words::usage();
+        return;
+    }
+    let suite = numbers::suite_named(2);
+    let number = risk::refusal(suite, ad.value, message.value);
+    if number != 0 {
+        words::refused(number);
+        return;
+    }
+    table(suite, ad.value, message.value);
+}

@@ -1,0 +1,96 @@
+// What the program reads and writes in words: on standard output what was done, on standard error what was not.
+use libc::STDERR_FILENO;
+use libc::STDOUT_FILENO;
+
+pub const UNKNOWN: u8 = 0;
+
+pub const SEAL: u8 = 1;
+
+pub const OPEN: u8 = 2;
+
+pub const ROWS: u8 = 3;
+
+pub fn command(word: &[u8]) -> u8 {
+    if check::same(word, b"seal") {
+        return SEAL;
+    }
+    if check::same(word, b"open") {
+        return OPEN;
+    }
+    if check::same(word, b"rows") {
+        return ROWS;
+    }
+    UNKNOWN
+}
+
+fn warn(text: &[u8]) {
+    io::write_all(STDERR_FILENO, text);
+}
+
+fn say(text: &[u8]) -> bool {
+    io::write_all(STDOUT_FILENO, text)
+}
+
+pub fn usage() {
+    warn(b"usage: piverrone seal SUITE KEYFILE NONCEFILE DATAFILE IN OUT\n");
+    warn(b"       piverrone open SUITE KEYFILE NONCEFILE DATAFILE IN OUT\n");
+    warn(b"       piverrone rows SUITE DATA-BYTES MESSAGE-BYTES\n");
+    warn(
+        b"The exit status says nothing. OUT is written where standard output says sealed or opened.\n",
+    );
+}
+
+// A refusal, by its number and in words.
+pub fn refused(number: u8) {
+    warn(b"refused: ");
+    io::print_decimal(STDERR_FILENO, number as u64);
+    match number {
+        1 => warn(b", the suite is not 1 to 4\n"),
+        2 => warn(b", the key's length is not the suite's\n"),
+        3 => warn(b", the nonce's length is not the suite's\n"),
+        4 => warn(b", the data is over 1048576 bytes\n"),
+        5 => warn(b", the message is over 1048576 bytes\n"),
+        6 => warn(b", the tag is not 16 bytes\n"),
+        _ => warn(b", the tag is not the computed one\n"),
+    }
+}
+
+// What was done, and its number of rows.
+pub fn done(what: &[u8], rows: usize) {
+    let told = say(what)
+        && say(b"rows: ")
+        && io::print_decimal(STDOUT_FILENO, rows as u64)
+        && say(b"\n");
+    if !told {
+        os::fail(b"standard output");
+    }
+}
+
+fn kind(kind: u8) -> bool {
+    match kind {
+        risk::DATA => say(b" data "),
+        risk::MESSAGE => say(b" message "),
+        risk::TAG => say(b" tag "),
+        _ => say(b" keystream "),
+    }
+}
+
+fn extent(partial: bool) -> bool {
+    if partial {
+        say(b" partial\n")
+    } else {
+        say(b" whole\n")
+    }
+}
+
+// A row of the risk table, numbered from one.
+pub fn row(number: usize, label: risk::Label) -> bool {
+    let told = io::print_decimal(STDOUT_FILENO, number as u64)
+        && kind(label.kind)
+        && io::print_decimal(STDOUT_FILENO, label.number as u64)
+        && extent(label.partial);
+    if !told {
+        os::fail(b"standard output");
+    }
+    told
+}
