@@ -1,3 +1,5 @@
+-- `piverrone::open` meets its contract: the ciphertext is what stands before the tag.
+-- Assumes nothing.
 use mathlib.Core.Path.{sym}
 use lib.Seq.{length-take-le}
 use borrow.Author.Needs.{needs}

@@ -1,3 +1,5 @@
+-- `piverrone::table` meets its contract: a row's number is below the table's length.
+-- Assumes nothing.
 use Prim.Native.Nat.{_-_}
 use borrow.Author.Needs.{needs}
 use Rattle.piverrone.proofs.table.Statement.{statement}

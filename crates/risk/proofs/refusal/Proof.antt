@@ -1,3 +1,5 @@
+-- `risk::refusal` meets its contract: the refusals of a sealing whose key and nonce fit, in their order.
+-- Assumes nothing.
 use mathlib.Core.Path.{refl}
 use Rattle.deoxys.proofs.Refusals.{no-suite-0, no-suite, long-data, long-text, none}
 use Rattle.risk.proofs.refusal.Statement.{statement}

@@ -1,3 +1,5 @@
+-- `risk::row` meets its contract: the place says which part of the table the row is in.
+-- Assumes nothing.
 use mathlib.Core.Path.{sym, _∙_}
 use native.Mathlib.Omega.{arith}
 use lib.ListN.{List·getD-eq-default}

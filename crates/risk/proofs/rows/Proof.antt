@@ -1,3 +1,5 @@
+-- `risk::rows` meets its contract: the parts' lengths, added up.
+-- Assumes nothing.
 use mathlib.Core.Path.{sym, _∙_}
 use borrow.Author.Needs.{needs}
 use Rattle.deoxys.proofs.Refusals.{good}

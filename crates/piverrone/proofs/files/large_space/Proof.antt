@@ -1,3 +1,5 @@
+-- `piverrone::files::large_space` meets its contract: the length of a repeat, without counting it out.
+-- Assumes nothing.
 use mathlib.Core.Path.{sym}
 use Prim.Native.Nat.{ℕ}
 use lib.ListN.{length-replicate}

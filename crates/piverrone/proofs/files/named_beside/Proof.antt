@@ -1,3 +1,5 @@
+-- `piverrone::files::named_beside` meets its contract: both copies fit.
+-- Assumes nothing.
 use borrow.Author.Needs.{needs}
 use Rattle.io.proofs.Counting.{counts}
 use Rattle.piverrone.proofs.files.named_beside.Statement.{statement}

@@ -1,3 +1,5 @@
+-- `piverrone::files::read_all` meets its contract: what was read so far is within the buffer.
+-- Assumes nothing.
 use mathlib.Core.Path.{_≡_}
 use Prim.Native.Nat.{_-_, _≤_}
 use lib.ListN.{length}

@@ -1,3 +1,5 @@
+-- `piverrone::numbers::spelt` meets its contract: after i turns the value is what i digits spell, or one above the limit.
+-- Assumes nothing.
 use mathlib.Core.Logic.{inl, inr}
 use mathlib.Core.Path.{_≡_}
 use Prim.Native.Nat.{_-_}

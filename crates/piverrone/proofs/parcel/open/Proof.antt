@@ -1,3 +1,5 @@
+-- `piverrone::parcel::open` meets its contract: a file is its ciphertext and then its tag; the contract of `deoxys::open`.
+-- Assumes nothing.
 use mathlib.Core.Path.{sym}
 use lib.Seq.{length-take-le}
 use borrow.Author.Needs.{needs}

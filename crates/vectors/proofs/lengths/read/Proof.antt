@@ -1,3 +1,5 @@
+-- `vectors::lengths::read` meets its contract: the numbers of a line, one after the other.
+-- Assumes nothing.
 use Prim.Native.Nat.{_-_, _≤_}
 use borrow.Author.Needs.{needs}
 use Rattle.vectors.proofs.lengths.read.Statement.{statement}

@@ -1,3 +1,5 @@
+-- `vectors::list::lines` meets its contract: each turn takes a line off what is left.
+-- Assumes nothing.
 use mathlib.Core.Path.{_≡_}
 use Prim.Native.Nat.{_-_, _≤_}
 use lib.ListN.{length}

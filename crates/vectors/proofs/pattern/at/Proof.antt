@@ -1,3 +1,5 @@
+-- `vectors::pattern::at` meets its contract: the byte of the pattern at a place.
+-- Assumes nothing.
 use mathlib.Core.Path.{refl}
 use borrow.Author.Needs.{needs}
 use Rattle.vectors.specs.Pattern.{patternAt}

@@ -1,3 +1,5 @@
+-- `vectors::pattern::checksum` meets its contract: after i turns the sum is that of the first i bytes.
+-- Assumes nothing.
 use mathlib.Core.Path.{_≡_, refl}
 use Prim.Native.Nat.{_-_, _≤_, _<_}
 use native.Mathlib.Numerals.{add-one}

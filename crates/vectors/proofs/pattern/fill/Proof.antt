@@ -1,3 +1,5 @@
+-- `vectors::pattern::fill` meets its contract: after i stores the first i bytes are the pattern's.
+-- Assumes nothing.
 use mathlib.Core.Path.{refl}
 use Prim.Native.Nat.{_-_}
 use native.Mathlib.Omega.{arith}

@@ -1,3 +1,5 @@
+-- `vectors::pattern::stayed` meets its contract: the loop stops at the first byte that is not the pattern's.
+-- Assumes nothing.
 use mathlib.Core.Bool.{false≢true}
 use mathlib.Core.Path.{_≡_, refl, sym, _∙_}
 use Prim.Native.Nat.{ℕ, _-_, _≤_, _<_}

@@ -1,3 +1,5 @@
+-- `vectors::pattern::zeros` meets its contract: the loop stops at the first byte that is not zero.
+-- Assumes nothing.
 use mathlib.Core.Bool.{false≢true}
 use mathlib.Core.Path.{_≡_, refl}
 use Prim.Native.Nat.{ℕ, _-_, _≤_, _<_}

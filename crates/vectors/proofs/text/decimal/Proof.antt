@@ -1,3 +1,5 @@
+-- `vectors::text::decimal` meets its contract: the loop goes on as long as there are digits and the value fits.
+-- Assumes nothing.
 use mathlib.Core.Bool.{true}
 use mathlib.Core.Path.{_≡_, refl, sym, _∙_}
 use Prim.Native.Nat.{_-_, _≤_}

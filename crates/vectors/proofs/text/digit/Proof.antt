@@ -1,3 +1,5 @@
+-- `vectors::text::digit` meets its contract: by the tests on a character.
+-- Assumes nothing.
 use borrow.Author.Needs.{needs}
 use Rattle.vectors.proofs.Spelling.{glyph-low, glyph-high}
 use Rattle.vectors.proofs.text.digit.Statement.{statement}

@@ -1,3 +1,5 @@
+-- `vectors::text::field` meets its contract: fields stand one space apart.
+-- Assumes nothing.
 use mathlib.Core.Path.{_≡_, sym, _∙_}
 use Prim.Native.Nat.{_-_, _≤_}
 use native.Mathlib.Nat.{sub-zero}

@@ -1,3 +1,5 @@
+-- `vectors::text::next` meets its contract: the loop ends at the line's end or the text's.
+-- Assumes nothing.
 use borrow.Author.Needs.{needs}
 use Rattle.vectors.proofs.Spelling.{next-field, no-field}
 use Rattle.vectors.proofs.text.next.Statement.{statement}

@@ -1,3 +1,5 @@
+-- `vectors::text::with_digit` meets its contract: one digit more.
+-- Assumes nothing.
 use mathlib.Core.Bool.{false≢true}
 use borrow.Author.Needs.{needs}
 use Rattle.vectors.proofs.Spelling.{one-digit}

@@ -1,3 +1,5 @@
+-- `vectors::text::with_field` meets its contract: the bytes of a field go after those that are there.
+-- Assumes nothing.
 use Prim.Native.Nat.{_-_, _/_, _≤_}
 use lib.ListN.{length}
 use borrow.Author.Needs.{needs}

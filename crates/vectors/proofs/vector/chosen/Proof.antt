@@ -1,3 +1,5 @@
+-- `vectors::vector::chosen` meets its contract: the bit is within the part.
+-- Assumes nothing.
 use Prim.Native.Nat.{_*_, _/_, _%_}
 use native.Mathlib.Nat.{mod-lt}
 use native.Mathlib.Omega.{arith}

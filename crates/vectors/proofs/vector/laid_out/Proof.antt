@@ -1,3 +1,5 @@
+-- `vectors::vector::laid_out` meets its contract: the text goes between bytes that guard it.
+-- Assumes nothing.
 use Prim.Native.Nat.{_≤_}
 use native.Mathlib.Omega.{arith}
 use lib.ListN.{length-append, length-replicate, length}

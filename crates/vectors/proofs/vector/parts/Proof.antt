@@ -1,3 +1,5 @@
+-- `vectors::vector::parts` meets its contract: after k fields k cuts are made, in order.
+-- Assumes nothing.
 use Prim.Native.Nat.{_-_, _≤_}
 use borrow.Author.Needs.{needs}
 use Rattle.vectors.proofs.vector.parts.Statement.{statement}

@@ -1,3 +1,5 @@
+-- `vectors::vector::replayed` meets its contract: a vector sealed, opened, and opened with each part changed.
+-- Assumes nothing.
 use Prim.Native.Nat.{_-_, _≤_}
 use borrow.Author.Needs.{needs}
 use Rattle.vectors.proofs.vector.replayed.Statement.{statement}

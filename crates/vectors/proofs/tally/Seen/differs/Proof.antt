@@ -1,3 +1,5 @@
+-- `vectors::tally::Seen::differs` meets its contract: nothing differs exactly where every test says so.
+-- Assumes nothing.
 use borrow.Author.Tests.{not-false}
 use borrow.Author.Needs.{needs}
 use Rattle.vectors.proofs.Differences.{not-nothing}

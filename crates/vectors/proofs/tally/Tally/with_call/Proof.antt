@@ -1,3 +1,5 @@
+-- `vectors::tally::Tally::with_call` meets its contract: one call more, and what it showed.
+-- Assumes nothing.
 use native.Mathlib.Omega.{arith}
 use borrow.Author.Needs.{needs}
 use Rattle.vectors.proofs.tally.Tally.with_call.Statement.{statement}
