@@ -1,4 +1,4 @@
--- The tweakey schedule of Deoxys-BC: document 01, "Tweakey", which gives the rules of the Deoxys paper (v1.41)
+-- The tweakey schedule of Deoxys-BC: document 01, "Tweakey", which gives the rules of the Deoxys paper (v1.41).
 -- Assumes nothing.
 use mathlib.Core.List.{List, [], _∷_, _++_}
 use Prim.Native.Nat.{ℕ, zero, suc, _+_, _-_, _*_, _/_, _%_}

@@ -1,4 +1,4 @@
--- Deoxys-I: document 01, "Modes", which gives the rules of the Deoxys paper (v1.41)
+-- Deoxys-I: document 01, "Modes", which gives the rules of the Deoxys paper (v1.41).
 -- Assumes nothing.
 use mathlib.Core.Bool.{Bool, true, false}
 use mathlib.Core.List.{List, [], _∷_, _++_}

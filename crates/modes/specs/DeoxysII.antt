@@ -1,4 +1,4 @@
--- Deoxys-II: document 01, "Modes", which gives the rules of the Deoxys paper (v1.41)
+-- Deoxys-II: document 01, "Modes", which gives the rules of the Deoxys paper (v1.41).
 -- Assumes nothing.
 use mathlib.Core.List.{List, [], _∷_, _++_}
 use Prim.Native.Nat.{ℕ, zero, suc, _+_}
