@@ -1,11 +1,11 @@
 // Sealing and opening in place, for any suite number and any bytes: the entry routines of the crate's `src/lib.rs`.
 ghost use mathlib.Core.Path.{_≡_};
 ghost use lib.ListN.{length};
-ghost use Rattle.modes.specs.Rows.{answered};
+ghost use Rattle.modes.specs.Answers.{answered};
 ghost use Rattle.deoxys.specs.Suites.{refusal};
 ghost use Rattle.deoxys.specs.Entry.{Sealing, Opening, sealed, opened, sealing, opening};
 
-mod suites;
+pub mod suites;
 
 // What sealing answers: a number of document 01, the tag, and the block cipher calls made.
 #[repr(C)]

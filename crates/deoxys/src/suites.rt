@@ -4,7 +4,7 @@ ghost use Rattle.deoxys.specs.Suites.{keyLength, nonceLength, refusal};
 
 const LIMIT: usize = 1048576;
 
-fn key_length(suite: u8) -> usize
+pub fn key_length(suite: u8) -> usize
     ensures { λ r. ⌜ r ≡ keyLength suite ⌝ }
 {
     if suite == 1 {
@@ -16,7 +16,7 @@ fn key_length(suite: u8) -> usize
     32
 }
 
-fn nonce_length(suite: u8) -> usize
+pub fn nonce_length(suite: u8) -> usize
     ensures { λ r. ⌜ r ≡ nonceLength suite ⌝ }
 {
     if suite <= 2 {

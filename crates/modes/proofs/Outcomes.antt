@@ -11,8 +11,9 @@ use Rattle.octets.specs.Octets.{pick, _⊕_, zeroBlock}
 use Rattle.deoxys_bc.specs.Cipher.{encipher}
 use Rattle.deoxys_bc.specs.declared.Subkeys.{Subkeys}
 use Rattle.modes.specs.Tweaks.{nonceTweak}
-use Rattle.modes.specs.Rows.{Row, answered, dataRows, absorbed}
-use Rattle.modes.specs.DeoxysI.{checksum, direction, cryptRows, crypted, sealI, openI}
+use Rattle.modes.specs.Rows.{Row, dataRows, absorbed}
+use Rattle.modes.specs.DeoxysI.{checksum, cryptRows, crypted, sealI, openI}
+use Rattle.modes.specs.Answers.{direction, answered}
 use Rattle.modes.specs.DeoxysII as II
 use Rattle.modes.specs.declared.Tagged.{Tagged}
 

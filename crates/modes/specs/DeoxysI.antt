@@ -1,6 +1,5 @@
 -- Deoxys-I: document 01, "Modes", which gives the rules of the Deoxys paper (v1.41).
 -- Assumes nothing.
-use mathlib.Core.Bool.{Bool, true, false}
 use mathlib.Core.List.{List, [], _∷_, _++_}
 use Prim.Native.Nat.{ℕ, zero, suc, _+_, _*_, _/_, _%_}
 use lib.Dec.{eqb}
@@ -38,29 +37,24 @@ abbrev pub tagRow : Subkeys → List ℕ → List ℕ → Row
 tagRow k nonce message =
     enciphered k (nonceTweak (pick (eqb (length message % 16) 0) 1 5) nonce (blocks message)) (checksum message)
 
-abbrev pub outcome : Subkeys → List ℕ → List ℕ → List Row → List ℕ → List ℕ → Outcome
-outcome k nonce ad rows text message = record {
-  text = text;
-  tag = absorbed zeroBlock (dataRows k ad) ⊕ tagRow k nonce message .to;
-  rows = dataRows k ad ++ (rows ++ (tagRow k nonce message ∷ []));
-}
-
 abbrev pub cryptRows : (List ℕ → List ℕ → Row) → Subkeys → List ℕ → List ℕ → List Row
 cryptRows call k nonce s = messageRows call k nonce (length s / 16) 0 s
 
 abbrev pub crypted : (List ℕ → List ℕ → Row) → Subkeys → List ℕ → List ℕ → List ℕ
 crypted call k nonce s = textOf (length s / 16) (cryptRows call k nonce s) s
 
--- a call each way: deciphering where it is an opening
-abbrev pub direction : Bool → Subkeys → List ℕ → List ℕ → Row
-direction true k = deciphered k
-direction false k = enciphered k
+-- a text worked on by a call, and the tag of the message
+abbrev pub outcome : (List ℕ → List ℕ → Row) → Subkeys → List ℕ → List ℕ → List ℕ → List ℕ → Outcome
+outcome call k nonce ad s message = record {
+  text = crypted call k nonce s;
+  tag = absorbed zeroBlock (dataRows k ad) ⊕ tagRow k nonce message .to;
+  rows = dataRows k ad ++ (cryptRows call k nonce s ++ (tagRow k nonce message ∷ []));
+}
 
--- full blocks are enciphered on sealing and deciphered on opening, which takes the checksum of what it recovers
+-- full blocks are enciphered on sealing
 unfoldable pub sealI : Subkeys → List ℕ → List ℕ → List ℕ → Outcome
-sealI k nonce ad message =
-    outcome k nonce ad (cryptRows (direction false k) k nonce message) (crypted (direction false k) k nonce message) message
+sealI k nonce ad message = outcome (enciphered k) k nonce ad message message
 
+-- and deciphered on opening, which takes the checksum of what it recovers
 unfoldable pub openI : Subkeys → List ℕ → List ℕ → List ℕ → Outcome
-openI k nonce ad cipher =
-    outcome k nonce ad (cryptRows (direction true k) k nonce cipher) (crypted (direction true k) k nonce cipher) (crypted (direction true k) k nonce cipher)
+openI k nonce ad cipher = outcome (deciphered k) k nonce ad cipher (crypted (deciphered k) k nonce cipher)

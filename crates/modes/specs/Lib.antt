@@ -2,3 +2,4 @@ pub mod Tweaks
 pub mod Rows
 pub mod DeoxysI
 pub mod DeoxysII
+pub mod Answers

@@ -7,7 +7,6 @@ use Rattle.octets.specs.Octets.{_⊕_, blockAt, padded}
 use Rattle.deoxys_bc.specs.Cipher.{encipher, decipher}
 use Rattle.deoxys_bc.specs.declared.Subkeys.{Subkeys}
 use Rattle.modes.specs.Tweaks.{numbered}
-use Rattle.modes.specs.declared.Tagged.{Tagged}
 
 pub record Row : Type 0 where
   pub tweak : List ℕ
@@ -26,10 +25,6 @@ pub record Outcome : Type 0 where
   pub text : List ℕ
   pub tag : List ℕ
   pub rows : List Row
-
--- the answer that an outcome is: the tag, and the number of rows
-abbrev pub answered : Outcome → Tagged
-answered o = record { tag = o .tag; count = record { rows = length (o .rows) } }
 
 -- the number of blocks of a text, a partial one counted
 abbrev pub blocks : List ℕ → ℕ

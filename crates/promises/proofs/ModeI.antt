@@ -15,8 +15,8 @@ use Rattle.deoxys_bc.specs.Cipher.{encipher}
 use Rattle.deoxys_bc.specs.declared.Subkeys.{Subkeys}
 use Rattle.deoxys_bc.proofs.Rounds.{KeyParts, encipher-block, decipher-block, decipher-encipher, encipher-decipher}
 use Rattle.modes.specs.Tweaks.{nonceTweak}
-use Rattle.modes.specs.Rows.{Row, enciphered, Outcome, partialRow, dataRows, absorbed}
-use Rattle.modes.specs.DeoxysI.{messageRows, textOf, checksum, tagRow, direction, crypted, sealI, openI}
+use Rattle.modes.specs.Rows.{Row, enciphered, deciphered, Outcome, partialRow, dataRows, absorbed}
+use Rattle.modes.specs.DeoxysI.{messageRows, textOf, checksum, tagRow, crypted, sealI, openI}
 use Rattle.modes.proofs.Authenticating.{partial-some}
 use Rattle.promises.proofs.Keys.{append-bytes}
 use Rattle.promises.proofs.Blocks.{zero-block, nonce-block, auth-block, checksum-block}
@@ -42,10 +42,10 @@ record Undoes (call call′ : List ℕ → List ℕ → Row) : Type 0 where
   back : (t b : List ℕ) → Block t → Block b → call′ t (call t b .to) .to ≡ b
 
 module _ {k : Subkeys} (parts : KeyParts k) where
-  deciphering : Undoes (direction false k) (direction true k)
+  deciphering : Undoes (enciphered k) (deciphered k)
   deciphering = record { gives = λ t b p q. encipher-block parts p q; back = λ t b p q. decipher-encipher parts p q }
 
-  enciphering : Undoes (direction true k) (direction false k)
+  enciphering : Undoes (deciphered k) (enciphered k)
   enciphering = record { gives = λ t b p q. decipher-block parts p q; back = λ t b p q. encipher-decipher parts p q }
 
   module _ {nonce : List ℕ} (pn : Bytes nonce) (en : length nonce ≡ 8) where

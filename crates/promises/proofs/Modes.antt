@@ -11,7 +11,7 @@ use borrow.Author.Tests.{leb-true, leb-false}
 use Rattle.octets.specs.Octets.{Bytes, Block, pick}
 use Rattle.deoxys_bc.specs.Tweakey.{expanded}
 use Rattle.deoxys_bc.specs.declared.Subkeys.{Subkeys}
-use Rattle.modes.specs.Rows.{Outcome, blocks, dataRows}
+use Rattle.modes.specs.Rows.{Row, deciphered, Outcome, blocks, dataRows}
 use Rattle.modes.specs.DeoxysI as I
 use Rattle.modes.specs.DeoxysII as II
 use Rattle.modes.proofs.Counts.{auth-count, crypt-count, keystream-count}
@@ -40,11 +40,10 @@ module _ {suite : ℕ} {key nonce ad : List ℕ} {n : ℕ} (given : Given key no
 -- ---- the rows
 
 module _ (k : Subkeys) (nonce ad s : List ℕ) where
-  rows-i : (call : Bool) (m : List ℕ) → length (dataRows k ad ++ (I.cryptRows (I.direction call k) k nonce s ++ (I.tagRow k nonce m ∷ [])))
-      ≡ blocks ad + blocks s + 1
+  rows-i : (call : List ℕ → List ℕ → Row) (m : List ℕ) → length (I.outcome call k nonce ad s m .rows) ≡ blocks ad + blocks s + 1
   rows-i call m =
       let a = auth-count k 32 96 ad in
-      let b = crypt-count (I.direction call k) k nonce s in
+      let b = crypt-count call k nonce s in
       simp length-append (omega arith)
 
   rows-sealing-ii : length (II.sealII k nonce ad s .rows) ≡ blocks ad + 2 * blocks s + 1
@@ -71,7 +70,7 @@ picked false f g m n p q = q refl
 pub rows-sealed : (suite : ℕ) (key nonce ad message : List ℕ) → length (sealed suite key nonce ad message .rows) ≡ rowsFor suite (length ad) (length message)
 unfolding sealed I.sealI
 rows-sealed suite key nonce ad message =
-    picked (leb suite 2) _ _ _ _ (λ e. rows-i (expanded key) nonce ad message false message) (λ e. rows-sealing-ii (expanded key) nonce ad message)
+    picked (leb suite 2) _ _ _ _ (λ e. rows-i (expanded key) nonce ad message _ message) (λ e. rows-sealing-ii (expanded key) nonce ad message)
 
 module _ {suite : ℕ} {key nonce ad cipher tag : List ℕ} (given : Given key nonce ad) (pc : Bytes cipher) (pt : Block tag)
     (good : Good suite (length key) (length nonce) (length ad) (length cipher)) where
@@ -84,5 +83,5 @@ module _ {suite : ℕ} {key nonce ad cipher tag : List ℕ} (given : Given key n
   pub rows-opened : length (opened suite key nonce ad cipher tag .rows) ≡ rowsFor suite (length ad) (length cipher)
   unfolding opened I.openI
   rows-opened =
-      picked (leb suite 2) _ _ _ _ (λ e. rows-i (expanded key) nonce ad cipher true (I.crypted (I.direction true (expanded key)) (expanded key) nonce cipher))
+      picked (leb suite 2) _ _ _ _ (λ e. rows-i (expanded key) nonce ad cipher _ (I.crypted (deciphered (expanded key)) (expanded key) nonce cipher))
       (λ e. rows-opening-ii (expanded key) nonce ad cipher tag (stays e))

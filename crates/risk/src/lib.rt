@@ -14,8 +14,6 @@ pub const KEYSTREAM: u8 = 3;
 
 pub const NO_ROW: u8 = 4;
 
-const LIMIT: usize = 1048576;
-
 // What a row is for, its block number, and whether its block of text is partial.
 pub struct Label {
     pub kind: u8,
@@ -27,19 +25,9 @@ pub struct Label {
 pub fn refusal(suite: u8, ad: usize, message: usize) -> u8
     ensures { λ r. ⌜ r ≡ refused suite ad message ⌝ }
 {
-    if suite == 0 {
-        return 1;
-    }
-    if 4 < suite {
-        return 1;
-    }
-    if LIMIT < ad {
-        return 4;
-    }
-    if LIMIT < message {
-        return 5;
-    }
-    0
+    let key = deoxys::suites::key_length(suite);
+    let nonce = deoxys::suites::nonce_length(suite);
+    deoxys::suites::refusal(suite, key, nonce, ad, message)
 }
 
 // A partial block is counted.

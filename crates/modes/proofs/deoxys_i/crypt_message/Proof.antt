@@ -7,7 +7,8 @@ use lib.ListN.{length}
 use borrow.Author.Needs.{needs}
 use Rattle.octets.specs.Octets.{zeroBlock}
 use Rattle.octets.proofs.Parts.{rest-is, rest-put}
-use Rattle.modes.specs.DeoxysI.{direction, messageRows, textOf}
+use Rattle.modes.specs.Answers.{direction}
+use Rattle.modes.specs.DeoxysI.{messageRows, textOf}
 use Rattle.modes.proofs.Counts.{counted}
 use Rattle.modes.proofs.Message.{Crypting, crypt-start, crypt-turn, crypt-part, crypt-none}
 use Rattle.modes.proofs.deoxys_i.crypt_message.Statement.{statement}

@@ -3,7 +3,8 @@
 use mathlib.Core.Bool.{true}
 use native.Mathlib.Omega.{arith}
 use borrow.Author.Needs.{needs}
-use Rattle.modes.specs.DeoxysI.{direction, openI}
+use Rattle.modes.specs.Answers.{direction}
+use Rattle.modes.specs.DeoxysI.{openI}
 use Rattle.modes.proofs.Counts.{auth-count, crypt-count}
 use Rattle.modes.proofs.Outcomes.{opened-i}
 use Rattle.modes.proofs.deoxys_i.open.Statement.{statement}

@@ -3,7 +3,8 @@
 use mathlib.Core.Bool.{false}
 use native.Mathlib.Omega.{arith}
 use borrow.Author.Needs.{needs}
-use Rattle.modes.specs.DeoxysI.{direction, sealI}
+use Rattle.modes.specs.Answers.{direction}
+use Rattle.modes.specs.DeoxysI.{sealI}
 use Rattle.modes.proofs.Counts.{auth-count, crypt-count}
 use Rattle.modes.proofs.Outcomes.{sealed-i}
 use Rattle.modes.proofs.deoxys_i.seal.Statement.{statement}
