@@ -1,12 +1,11 @@
 -- The inverse of every byte, by the one slow test of this crate: each product of `power x 254` is computed once, here, and the other
 -- tests read the list.
 -- Assumes nothing.
-use mathlib.Core.Path.{_≡_, refl}
+use mathlib.Core.Path.{_≡_}
 use mathlib.Core.List.{List, [], _∷_}
 use Prim.Native.Nat.{ℕ, _<_}
-use lib.Dec.{T, ltb, ltb→lt, eqb}
+use lib.Dec.{ltb, ltb→lt}
 use lib.ListN.{getD}
-use Rattle.octets.specs.Octets.{pick}
 use Rattle.octets.proofs.Tables.{below, agreed}
 use Rattle.aes.specs.Field.{double, times, power, inverse}
 

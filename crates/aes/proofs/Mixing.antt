@@ -1,7 +1,7 @@
 -- Mixing and its inverse: they undo each other, keep XOR and keep blocks. By columns: what is said of one column by a computed test on
 -- the powers of 2 (proofs/Linear) holds of the four.
 -- Assumes nothing.
-use mathlib.Core.Path.{_≡_, refl, sym, ap, _∙_}
+use mathlib.Core.Path.{_≡_, refl, _∙_}
 use mathlib.Core.List.{List}
 use Prim.Native.Nat.{ℕ, _+_, _*_, _/_, _%_, _<_}
 use native.Mathlib.Omega.{arith}

@@ -1,11 +1,10 @@
 -- The S-box and its inverse: bytes stay bytes, and each undoes the other, by one test over all bytes each way.
 -- Assumes nothing.
-use mathlib.Core.Path.{_≡_, refl, sym, ap, _∙_, subst}
+use mathlib.Core.Path.{_≡_, sym, ap, _∙_, subst}
 use Prim.Native.Nat.{ℕ, _<_}
 use lib.Dec.{T, ltb, ltb→lt}
 use lib.ListN.{getD}
 use Rattle.octets.proofs.Tables.{below, agreed}
-use Rattle.aes.specs.Field.{inverse}
 use Rattle.aes.specs.Substitution.{affine, unaffine, sub, invSub}
 use Rattle.aes.proofs.Inverses.{inverses, inverse-at, inverses-lt}
 

@@ -1,6 +1,6 @@
 -- FIPS 197, section 4: bytes as elements of the field of 256, with XOR as the sum and products modulo x⁸ + x⁴ + x³ + x + 1 (0x11B).
 -- Assumes nothing.
-use Prim.Native.Nat.{ℕ, zero, suc, _+_, _*_, _/_, _%_}
+use Prim.Native.Nat.{ℕ, zero, suc, _*_, _/_, _%_}
 use lib.Bits.{bitXor}
 use lib.Dec.{eqb}
 use Rattle.octets.specs.Octets.{pick}

@@ -1,15 +1,15 @@
 -- The refusals in their order, each as the test that gives it leaves it; and what holds where none applies.
 -- Assumes nothing.
-use mathlib.Core.Path.{_≡_, refl, sym, _∙_}
-use mathlib.Core.Bool.{Bool, true, false, not}
+use mathlib.Core.Path.{_≡_, refl, _∙_}
+use mathlib.Core.Bool.{Bool, true, false}
 use mathlib.Core.Logic.{_⊎_, inl, inr}
 use Prim.Native.Nat.{ℕ, zero, suc, _≤_, _<_}
 use native.Mathlib.Nat.{suc-ne-zero}
 use native.Mathlib.Omega.{arith}
-use lib.Dec.{eqb, leb, ltb}
-use borrow.Author.Tests.{eq-eqb, ne-eqb, lt-ltb, le-ltb, le-leb, lt-leb, eqb-true, ltb-true, ltb-false, leb-true, not-false}
+use lib.Dec.{eqb}
+use borrow.Author.Tests.{eq-eqb, ne-eqb, lt-ltb, le-ltb, le-leb, lt-leb, eqb-true, ltb-false, not-false}
 use Rattle.octets.specs.Octets.{pick}
-use Rattle.deoxys.specs.Suites.{isSuite, isDeoxysI, keyLength, nonceLength, limit, refusal}
+use Rattle.deoxys.specs.Suites.{isSuite, keyLength, nonceLength, refusal}
 
 -- ---- what the code's tests show
 

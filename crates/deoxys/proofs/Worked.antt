@@ -3,14 +3,14 @@
 -- Assumes nothing.
 use mathlib.Core.Path.{_≡_, refl}
 use mathlib.Core.List.{List, [], _∷_, _++_, map}
-use Prim.Native.Nat.{ℕ, _*_}
+use Prim.Native.Nat.{ℕ}
 use lib.ListN.{length, take, drop, replicate}
 use Rattle.octets.specs.Octets.{_⊕_, table, eachByte, zeroBlock, bigEndian}
 use Rattle.aes.specs.Field.{double, times, power, inverse}
 use Rattle.aes.specs.Substitution.{affine, sub}
 use Rattle.aes.specs.Round.{mixByte, mixColumns}
 use Rattle.deoxys_bc.specs.Tweakey.{lfsr2, lfsr3, roundConstant, constantBlock, expanded}
-use Rattle.modes.specs.Tweaks.{numbered, nonceTweak, keystreamTweak}
+use Rattle.modes.specs.Tweaks.{nonceTweak, keystreamTweak}
 use Rattle.modes.specs.Rows.{textRows}
 use Rattle.modes.specs.DeoxysI.{messageRows, tagRow, sealI}
 use Rattle.modes.specs.DeoxysII.{keystreamFrom, sealII}

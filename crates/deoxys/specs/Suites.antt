@@ -1,10 +1,8 @@
 -- The suites and the refusals that depend on lengths alone: document 01, its first table and "Numbers an entry point answers with".
 -- Assumes nothing.
-use mathlib.Core.Bool.{Bool, true, false, not}
-use mathlib.Core.List.{List}
+use mathlib.Core.Bool.{Bool, false, not}
 use Prim.Native.Nat.{ℕ}
 use lib.Dec.{eqb, leb, ltb}
-use lib.ListN.{length}
 use Rattle.octets.specs.Octets.{pick}
 
 -- 1 is Deoxys-I-128, 2 Deoxys-I-256, 3 Deoxys-II-128, 4 Deoxys-II-256

@@ -1,12 +1,12 @@
 -- Deciphering undoes enciphering and enciphering undoes deciphering, once over the number of rounds, for any key parts and tweak;
 -- and the equivalent inverse cipher, round by round.
 -- Assumes nothing.
-use mathlib.Core.Path.{_≡_, refl, sym, ap, ap₂, _∙_}
+use mathlib.Core.Path.{_≡_, sym, ap, ap₂, _∙_}
 use mathlib.Core.List.{List}
-use Prim.Native.Nat.{ℕ, zero, suc, _+_, _-_, _*_, _≤_, _<_}
+use Prim.Native.Nat.{ℕ, zero, suc, _+_, _*_, _≤_}
 use native.Mathlib.Nat.{le-refl}
 use native.Mathlib.Omega.{arith}
-use lib.ListN.{length, take, drop}
+use lib.ListN.{length}
 use Rattle.octets.specs.Octets.{Bytes, Block, _⊕_, blockAt}
 use Rattle.octets.proofs.Xor.{⊕-block, ⊕-back, ⊕-length}
 use Rattle.octets.proofs.Parts.{part-length, part-block}

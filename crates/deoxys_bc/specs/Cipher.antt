@@ -1,7 +1,7 @@
 -- Deoxys-BC: document 01, "Tweakey", its last paragraphs, which gives the rules of the Deoxys paper (v1.41).
 -- Assumes nothing.
 use mathlib.Core.List.{List}
-use Prim.Native.Nat.{ℕ, zero, suc, _+_}
+use Prim.Native.Nat.{ℕ, zero, suc}
 use Rattle.octets.specs.Octets.{_⊕_, blockAt}
 use Rattle.aes.specs.Round.{round, invRound}
 use Rattle.deoxys_bc.specs.Tweakey.{tweakAfter}

@@ -1,11 +1,11 @@
 -- How the code lays out the tweaks, byte by byte, and that these are the definition's.
 -- Assumes nothing.
 use mathlib.Core.Path.{_≡_, refl, sym, ap, _∙_}
-use mathlib.Core.List.{List, [], _∷_, _++_}
+use mathlib.Core.List.{List, [], _∷_}
 use Prim.Native.Nat.{ℕ, zero, suc, _+_, _*_, _/_, _%_, _<_}
 use native.Mathlib.Nat.{not-suc-le-zero, mod-lt, zero-lt-suc, div-add-mod'}
 use lib.Bits.{bitOr}
-use lib.ListN.{length, getD, set, replicate}
+use lib.ListN.{length, getD, set}
 use Rattle.octets.specs.Octets.{table, bigEndian}
 use Rattle.octets.proofs.Tables.{agreed, spelt}
 use Rattle.octets.proofs.Parts.{upto}

@@ -1,6 +1,6 @@
 -- Rows, and Auth: document 01, "Rows" and "Associated data", which gives the rules of the Deoxys paper (v1.41). A row is one block cipher call.
 -- Assumes nothing.
-use mathlib.Core.List.{List, [], _∷_, _++_}
+use mathlib.Core.List.{List, [], _∷_}
 use Prim.Native.Nat.{ℕ, zero, suc, _+_, _*_, _/_}
 use lib.ListN.{length, drop}
 use Rattle.octets.specs.Octets.{_⊕_, blockAt, padded}

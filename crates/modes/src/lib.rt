@@ -1,7 +1,6 @@
 // The modes: the crate's `src/modes.rs`. Every block cipher call is one of `deoxys_bc::encipher` and `deoxys_bc::decipher`, its block
 // used and its count handed on.
 ghost use mathlib.Core.Path.{_≡_};
-ghost use mathlib.Core.List.{_∷_};
 ghost use Prim.Native.Nat.{_+_, _/_, _≤_, _<_, _^_};
 ghost use lib.ListN.{length};
 ghost use Rattle.octets.specs.Octets.{_⊕_, zeroBlock};

@@ -6,7 +6,7 @@ use Prim.Native.Nat.{ℕ, zero, suc, _+_, _-_, _*_, _/_, _%_, _≤_, _<_}
 use native.Mathlib.Nat.{mod-lt, zero-lt-suc}
 use native.Mathlib.Omega.{arith}
 use lib.Dec.{lit<}
-use lib.ListN.{length, getD, take, drop, replicate, length-drop}
+use lib.ListN.{length, getD, drop, length-drop}
 use Rattle.octets.specs.Octets.{Bytes, Block, table, zeroBlock, padded, bigEndian}
 use Rattle.octets.proofs.Xor.{⊕-block}
 use Rattle.octets.proofs.Tables.{spelt}

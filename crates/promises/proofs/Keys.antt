@@ -1,21 +1,19 @@
 -- The expanded key of a key of bytes is key parts of bytes, enough for its rounds.
 -- Assumes nothing.
-use mathlib.Core.Path.{_≡_, refl, sym, ap, _∙_, subst}
-use mathlib.Core.Bool.{Bool, true, false}
+use mathlib.Core.Path.{_≡_, refl, subst}
 use mathlib.Core.Logic.{_⊎_, ⊎-elim}
 use mathlib.Core.List.{List, [], _∷_, _++_}
-use Prim.Native.Nat.{ℕ, zero, suc, _+_, _-_, _*_, _≤_, _<_}
-use native.Mathlib.Nat.{not-suc-le-zero}
+use Prim.Native.Nat.{ℕ, zero, suc, _+_, _-_, _*_, _<_}
 use native.Mathlib.Omega.{arith}
-use lib.Dec.{T, eqb, lit<, lit≤}
+use lib.Dec.{lit<}
 use lib.ListN.{length, getD, take, drop, replicate, length-drop}
 use lib.Seq.{take-all}
 use borrow.Author.Tests.{eq-eqb, ne-eqb}
-use Rattle.octets.specs.Octets.{Bytes, Block, pick, _⊕_}
+use Rattle.octets.specs.Octets.{Bytes, Block, _⊕_}
 use Rattle.octets.proofs.Xor.{⊕-block}
 use Rattle.octets.proofs.Parts.{part-block}
 use Rattle.aes.proofs.Linear.{double-lt}
-use Rattle.deoxys_bc.specs.Tweakey.{tk2, tk3, roundConstant, constantBlock, keyPart, joined, flat, expanded}
+use Rattle.deoxys_bc.specs.Tweakey.{roundConstant, constantBlock, keyPart, joined, flat, expanded}
 use Rattle.deoxys_bc.proofs.Flat.{flat-length}
 use Rattle.deoxys_bc.proofs.Tweakeys.{tk2-block, tk3-block, rounds-small}
 use Rattle.deoxys_bc.proofs.Rounds.{KeyParts}

@@ -1,8 +1,8 @@
 -- Deoxys-I both ways: deciphering a message's rows undoes enciphering them, and the other way round, by one induction over the blocks.
 -- Assumes nothing.
-use mathlib.Core.Path.{_≡_, refl, sym, ap, ap₂, _∙_}
+use mathlib.Core.Path.{_≡_, refl, ap, _∙_}
 use mathlib.Core.Bool.{Bool, true, false}
-use mathlib.Core.List.{List, [], _∷_, _++_}
+use mathlib.Core.List.{List, [], _∷_}
 use Prim.Native.Nat.{ℕ, zero, suc, _+_, _-_, _*_, _/_, _%_, _≤_, _<_}
 use native.Mathlib.Omega.{arith}
 use lib.Dec.{eqb, lit<}
@@ -15,8 +15,8 @@ use Rattle.deoxys_bc.specs.Cipher.{encipher}
 use Rattle.deoxys_bc.specs.declared.Subkeys.{Subkeys}
 use Rattle.deoxys_bc.proofs.Rounds.{KeyParts, encipher-block, decipher-block, decipher-encipher, encipher-decipher}
 use Rattle.modes.specs.Tweaks.{nonceTweak}
-use Rattle.modes.specs.Rows.{Row, enciphered, deciphered, Outcome, partialRow, dataRows, absorbed}
-use Rattle.modes.specs.DeoxysI.{messageRows, textOf, checksum, tagRow, crypted, sealI, openI}
+use Rattle.modes.specs.Rows.{Row, enciphered, deciphered, Outcome, dataRows, absorbed}
+use Rattle.modes.specs.DeoxysI.{messageRows, textOf, tagRow, crypted, sealI, openI}
 use Rattle.modes.proofs.Authenticating.{partial-some}
 use Rattle.promises.proofs.Keys.{append-bytes}
 use Rattle.promises.proofs.Blocks.{zero-block, nonce-block, auth-block, checksum-block}

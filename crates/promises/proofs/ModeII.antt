@@ -1,7 +1,7 @@
 -- Deoxys-II both ways: a text XORed twice with the keystream of one tag is the text.
 -- Assumes nothing.
-use mathlib.Core.Path.{_≡_, refl, sym, ap, _∙_}
-use mathlib.Core.List.{List, [], _∷_, _++_}
+use mathlib.Core.Path.{_≡_, refl, ap, _∙_}
+use mathlib.Core.List.{List, _∷_}
 use Prim.Native.Nat.{ℕ, zero, suc, _+_, _*_, _/_, _≤_, _<_}
 use native.Mathlib.Omega.{arith}
 use lib.Dec.{lit<}
@@ -12,8 +12,8 @@ use Rattle.deoxys_bc.specs.Cipher.{encipher}
 use Rattle.deoxys_bc.specs.declared.Subkeys.{Subkeys}
 use Rattle.deoxys_bc.proofs.Rounds.{KeyParts, encipher-block}
 use Rattle.modes.specs.Tweaks.{keystreamTweak}
-use Rattle.modes.specs.Rows.{blocks, dataRows, absorbed}
-use Rattle.modes.specs.DeoxysII.{messageRows, tagRow, keystreamFrom, keystreamRows, given, crypted, sealII, openII}
+use Rattle.modes.specs.Rows.{blocks}
+use Rattle.modes.specs.DeoxysII.{tagRow, keystreamFrom, keystreamRows, given, crypted, sealII, openII}
 use Rattle.promises.proofs.Keys.{nil-bytes, append-bytes}
 use Rattle.promises.proofs.Blocks.{zero-block, prefix-block, keystream-block, auth-block}
 use Rattle.promises.proofs.ModeI.{Like, Mode}

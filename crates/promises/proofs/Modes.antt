@@ -1,9 +1,9 @@
 -- The four suites as modes that are each other's inverses, and their row counts; each fact shown once for Deoxys-I and Deoxys-II.
 -- Assumes nothing.
-use mathlib.Core.Path.{_≡_, refl, sym, ap, _∙_}
+use mathlib.Core.Path.{_≡_, refl}
 use mathlib.Core.Bool.{Bool, true, false}
-use mathlib.Core.List.{List, [], _∷_, _++_}
-use Prim.Native.Nat.{ℕ, suc, _+_, _*_, _/_}
+use mathlib.Core.List.{List}
+use Prim.Native.Nat.{ℕ, _+_, _*_}
 use native.Mathlib.Omega.{arith}
 use lib.Dec.{leb}
 use lib.ListN.{length, length-append}
@@ -11,11 +11,10 @@ use borrow.Author.Tests.{leb-true, leb-false}
 use Rattle.octets.specs.Octets.{Bytes, Block, pick}
 use Rattle.deoxys_bc.specs.Tweakey.{expanded}
 use Rattle.deoxys_bc.specs.declared.Subkeys.{Subkeys}
-use Rattle.modes.specs.Rows.{Row, deciphered, Outcome, blocks, dataRows}
+use Rattle.modes.specs.Rows.{Row, deciphered, Outcome, blocks}
 use Rattle.modes.specs.DeoxysI as I
 use Rattle.modes.specs.DeoxysII as II
 use Rattle.modes.proofs.Counts.{auth-count, crypt-count, keystream-count}
-use Rattle.deoxys.specs.Suites.{isDeoxysI}
 use Rattle.deoxys.specs.Entry.{sealed, opened}
 use Rattle.deoxys.proofs.Refusals.{Good, key-is, nonce-i, nonce-ii}
 use Rattle.promises.specs.Statements.{Given, rowsFor}

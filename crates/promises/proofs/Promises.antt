@@ -1,16 +1,14 @@
 -- The proofs of the statements of specs/Statements, in their order.
 -- Assumes nothing.
 use mathlib.Core.Path.{_≡_, refl, sym, ap, _∙_, subst}
-use mathlib.Core.Bool.{Bool, true, false}
-use mathlib.Core.Logic.{_↔_}
 use mathlib.Core.List.{List}
-use Prim.Native.Nat.{ℕ, _+_, _≤_}
+use Prim.Native.Nat.{ℕ}
 use native.Mathlib.Omega.{arith}
 use lib.ListN.{length, replicate}
 use Rattle.octets.specs.Octets.{Bytes, Block, same}
 use Rattle.octets.proofs.Sameness.{same-refl, same-eq}
 use Rattle.deoxys.specs.Suites.{refusal}
-use Rattle.deoxys.specs.Entry.{Sealing, Opening, sealed, opened, sealing, opening}
+use Rattle.deoxys.specs.Entry.{Sealing, Opening, sealed, opened}
 use Rattle.deoxys.proofs.Refusals.{good}
 use Rattle.deoxys.proofs.Answers.{seal-done, open-done}
 use Rattle.promises.specs.Statements.{
@@ -32,7 +30,7 @@ use Rattle.promises.specs.Statements.{
   One-outcome-of-seal,
   One-outcome-of-open,
 }
-use Rattle.promises.proofs.ModeI.{Like, Mode}
+use Rattle.promises.proofs.ModeI.{Mode}
 use Rattle.promises.proofs.Modes.{mode, rows-sealed, rows-opened}
 use Rattle.promises.proofs.Views.{number, SealView, seal-view, OpenView, open-view, refusal-small}
 

@@ -1,16 +1,15 @@
 -- The four ways an opening can go and the two of a sealing, each with what it answers.
 -- Assumes nothing.
-use mathlib.Core.Path.{_≡_, refl, sym, ap, _∙_}
+use mathlib.Core.Path.{_≡_, refl, sym}
 use mathlib.Core.Bool.{Bool, true, false, not}
 use mathlib.Core.List.{List}
-use Prim.Native.Nat.{ℕ, zero, suc, _≤_}
-use native.Mathlib.Omega.{arith}
+use Prim.Native.Nat.{ℕ, _≤_}
 use lib.Dec.{eqb, ltb, lit≤}
 use lib.ListN.{length, replicate}
 use borrow.Author.Tests.{eqb-true, eqb-false}
 use Rattle.octets.specs.Octets.{pick, same, zeroBlock}
 use Rattle.deoxys.specs.Suites.{isSuite, keyLength, nonceLength, limit, refusal}
-use Rattle.deoxys.specs.Entry.{Sealing, Opening, sealed, opened, sealing, opening}
+use Rattle.deoxys.specs.Entry.{sealed, opened, sealing, opening}
 use Rattle.deoxys.proofs.Answers.{seal-refused, seal-done, open-refused, open-tag-length, open-done, open-wrong-tag}
 
 data Decided (n m : ℕ) : Type 0 where

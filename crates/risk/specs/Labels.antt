@@ -1,7 +1,7 @@
 -- The labels of a sealing's rows, from the suite and the two lengths alone: document 01, "Rows".
 -- A label's kind is 0 for data, 1 for message, 2 for the tag, 3 for keystream; 4 stands past the last row.
 -- Assumes nothing.
-use mathlib.Core.Bool.{true, false}
+use mathlib.Core.Bool.{false}
 use mathlib.Core.List.{List, [], _∷_, _++_}
 use Prim.Native.Nat.{ℕ, zero, suc, _+_, _*_, _/_}
 use lib.Dec.{eqb, ltb}
