@@ -1,4 +1,5 @@
--- The tweaks of both modes: document 01, "Modes", which gives the rules of the Deoxys paper (v1.41). A block number is a big-endian 64-bit number.
+-- The tweaks of both modes: document 01, "Modes", which gives the rules of the Deoxys paper (v1.41). A block number is a
+-- big-endian 64-bit number.
 -- Assumes nothing.
 use mathlib.Core.List.{List, [], _∷_, _++_}
 use Prim.Native.Nat.{ℕ, _+_, _*_, _/_, _%_}

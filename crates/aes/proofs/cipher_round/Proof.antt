@@ -24,7 +24,14 @@ xor-block-requires c κs = search needs
 returns : tie.Need-returns
 unfolding round subBytes
 returns c = let bytes : Bytes (c .before .before .before .before .args .block) = record { at = λ i. byte (search needs) } in
-    rw (c .xor-block .ensures, c .before .mix-columns .ensures, c .before .before .shift-rows .ensures, c .before .before .before .substitute .ensures, c .before .before .before .before .pre, by-table sub bytes)
+    rw (
+      c .xor-block .ensures,
+      c .before .mix-columns .ensures,
+      c .before .before .shift-rows .ensures,
+      c .before .before .before .substitute .ensures,
+      c .before .before .before .before .pre,
+      by-table sub bytes,
+    )
 
 pub cipher-round-spec : {M : Type 1} → statement M
 cipher-round-spec =

@@ -24,7 +24,14 @@ xor-block-requires c κs = search needs
 returns : tie.Need-returns
 unfolding equivInvRound invSubBytes
 returns c = let bytes : Bytes (c .before .before .before .before .args .block) = record { at = λ i. byte (search needs) } in
-    rw (c .xor-block .ensures, c .before .inv-mix-columns .ensures, c .before .before .inv-shift-rows .ensures, c .before .before .before .substitute .ensures, c .before .before .before .before .pre, by-table invSub bytes)
+    rw (
+      c .xor-block .ensures,
+      c .before .inv-mix-columns .ensures,
+      c .before .before .inv-shift-rows .ensures,
+      c .before .before .before .substitute .ensures,
+      c .before .before .before .before .pre,
+      by-table invSub bytes,
+    )
 
 pub equiv-inv-cipher-round-spec : {M : Type 1} → statement M
 equiv-inv-cipher-round-spec =

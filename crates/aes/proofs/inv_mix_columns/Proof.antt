@@ -13,7 +13,8 @@ use Rattle.aes.proofs.inv_mix_columns.Statement.{statement}
 use Rattle.aes.proofs.inv_mix_columns.Tie as tie
 
 abbrev Inv-loop : tie.InvT-loop
-Inv-loop block third folded₀ i₀ folded i = Filled (λ k. bitXor (getD block k 0) (double (double (bitXor (getD block k 0) (getD third k 0))))) 16 folded i
+Inv-loop block third folded₀ i₀ folded i =
+    Filled (λ k. bitXor (getD block k 0) (double (double (bitXor (getD block k 0) (getD third k 0))))) 16 folded i
 
 abbrev μ-loop : tie.MeasureT-loop
 μ-loop block third folded₀ i₀ folded i = 16 - i

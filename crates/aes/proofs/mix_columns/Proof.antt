@@ -11,7 +11,8 @@ use Rattle.aes.proofs.mix_columns.Statement.{statement}
 use Rattle.aes.proofs.mix_columns.Tie as tie
 
 abbrev Inv-loop : tie.InvT-loop
-Inv-loop block second third fourth out₀ i₀ out i = Filled (λ k. mixByte (getD block k 0) (getD second k 0) (getD third k 0) (getD fourth k 0)) 16 out i
+Inv-loop block second third fourth out₀ i₀ out i =
+    Filled (λ k. mixByte (getD block k 0) (getD second k 0) (getD third k 0) (getD fourth k 0)) 16 out i
 
 abbrev μ-loop : tie.MeasureT-loop
 μ-loop block second third fourth out₀ i₀ out i = 16 - i
@@ -57,7 +58,13 @@ loop-again c = filled-more (c .mix-byte .result) (c .before .before .loop .inv) 
 
 returns : tie.Need-returns Inv-loop μ-loop
 unfolding mixColumns table
-returns c = filled-all (c .before .loop .inv) (search needs) ∙ rw (c .before .before .turn-columns3 .ensures, c .before .before .before .turn-columns2 .ensures, c .before .before .before .before .turn-columns .ensures)
+returns c =
+    filled-all (c .before .loop .inv) (search needs)
+    ∙ rw (
+      c .before .before .turn-columns3 .ensures,
+      c .before .before .before .turn-columns2 .ensures,
+      c .before .before .before .before .turn-columns .ensures,
+    )
 
 pub mix-columns-spec : {M : Type 1} → statement M
 mix-columns-spec =

@@ -30,10 +30,13 @@ same-length : tie.Need-same-length
 same-length c = search needs
 
 returns-3 : tie.Need-returns-3
-returns-3 c = let whole = c .before .before .before .before .before .before .before .read-block .ensures ∙ take-all 16 (c .before .before .before .before .before .before .before .before .before .before .before .before .before .before .before .before .args .tag .now) (omega arith) in
-    let right = rw (c .before .before .before .before .before .recover .ensures .0, whole) at (sym (c .before .same-block .ensures) ∙ c .if3 .taken) in
-    rw (c .before .before .before .before .before .recover .ensures .1, c .before .before .before .before .before .recover .ensures .0, whole)
-    (open-done _ _ _ _ _ _ (sym (c .before .before .before .before .before .before .before .before .before .before .refusal .ensures) ∙ c .before .before .before .before .before .before .before .before .before .if1 .left) (c .before .before .before .before .before .before .before .before .if2 .left) right)
+returns-3 c =
+    let recovered = c .before .before .before .before .before in
+    let tests = recovered .before .before .before in
+    let whole = recovered .before .before .read-block .ensures ∙ take-all 16 (tests .before .before .before .before .before .before .before .before .args .tag .now) (omega arith) in
+    let right = rw (recovered .recover .ensures .0, whole) at (sym (c .before .same-block .ensures) ∙ c .if3 .taken) in
+    rw (recovered .recover .ensures .1, recovered .recover .ensures .0, whole)
+    (open-done _ _ _ _ _ _ (sym (tests .before .before .refusal .ensures) ∙ tests .before .if1 .left) (tests .if2 .left) right)
 
 clear-requires : tie.Need-clear-requires
 clear-requires c κs = search needs
@@ -42,10 +45,14 @@ same-length-2 : tie.Need-same-length-2
 same-length-2 c = search needs
 
 returns-4 : tie.Need-returns-4
-returns-4 c = let whole = c .before .before .before .before .before .before .before .before .before .before .before .read-block .ensures ∙ take-all 16 (c .before .before .before .before .before .before .before .before .before .before .before .before .before .before .before .before .before .before .before .before .args .tag .now) (omega arith) in
-    let wrong = rw (c .before .before .before .before .before .before .before .before .before .recover .ensures .0, whole) at (sym (c .before .before .before .before .before .same-block .ensures) ∙ c .before .before .before .before .if3 .left) in
-    rw (c .before .before .clear .ensures, c .before .before .before .before .before .before .before .before .before .recover .kept .1 .1 .1 .1 .0, c .before .before .before .before .before .before .before .before .before .recover .ensures .0, whole)
-    (open-wrong-tag _ _ _ _ _ _ (sym (c .before .before .before .before .before .before .before .before .before .before .before .before .before .before .refusal .ensures) ∙ c .before .before .before .before .before .before .before .before .before .before .before .before .before .if1 .left) (c .before .before .before .before .before .before .before .before .before .before .before .before .if2 .left) wrong)
+returns-4 c =
+    let compared = c .before .before .before .before in
+    let recovered = compared .before .before .before .before .before in
+    let tests = recovered .before .before .before in
+    let whole = recovered .before .before .read-block .ensures ∙ take-all 16 (tests .before .before .before .before .before .before .before .before .args .tag .now) (omega arith) in
+    let wrong = rw (recovered .recover .ensures .0, whole) at (sym (compared .before .same-block .ensures) ∙ compared .if3 .left) in
+    rw (c .before .before .clear .ensures, recovered .recover .kept .1 .1 .1 .1 .0, recovered .recover .ensures .0, whole)
+    (open-wrong-tag _ _ _ _ _ _ (sym (tests .before .before .refusal .ensures) ∙ tests .before .if1 .left) (tests .if2 .left) wrong)
 
 pub open-spec : {M : Type 1} → statement M
 open-spec =

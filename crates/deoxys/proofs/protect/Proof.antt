@@ -19,7 +19,14 @@ same-length : tie.Need-same-length
 same-length c = search needs
 
 returns : tie.Need-returns
-returns c = rw (c .before .before .seal .ensures .1, c .before .before .seal .ensures .0, c .before .before .before .before .before .precompute-subkeys .ensures, sealed-i _ _ _ _ _ (c .before .before .before .before .if1 .taken)) (refl, refl)
+returns c =
+    rw (
+      c .before .before .seal .ensures .1,
+      c .before .before .seal .ensures .0,
+      c .before .before .before .before .before .precompute-subkeys .ensures,
+      sealed-i _ _ _ _ _ (c .before .before .before .before .if1 .taken),
+    )
+    (refl, refl)
 
 seal-requires-2 : tie.Need-seal-requires-2
 seal-requires-2 c κs = let g = good _ _ _ _ _ (c .before .before .before .before .before .before .before .pre) in
@@ -29,7 +36,14 @@ same-length-2 : tie.Need-same-length-2
 same-length-2 c = search needs
 
 returns-2 : tie.Need-returns-2
-returns-2 c = rw (c .before .before .seal2 .ensures .1, c .before .before .seal2 .ensures .0, c .before .before .before .before .before .precompute-subkeys .ensures, sealed-ii _ _ _ _ _ (c .before .before .before .before .if1 .left)) (refl, refl)
+returns-2 c =
+    rw (
+      c .before .before .seal2 .ensures .1,
+      c .before .before .seal2 .ensures .0,
+      c .before .before .before .before .before .precompute-subkeys .ensures,
+      sealed-ii _ _ _ _ _ (c .before .before .before .before .if1 .left),
+    )
+    (refl, refl)
 
 pub protect-spec : {M : Type 1} → statement M
 protect-spec =

@@ -20,7 +20,13 @@ same-length c = search needs
 
 returns : tie.Need-returns
 returns c = let a = c .before .before .before .before .before .before .before .before .before .before .args in
-    rw (c .before .before .«open» .ensures .1, c .before .before .«open» .ensures .0, c .before .before .before .before .before .precompute-subkeys .ensures, opened-i _ _ _ _ _ (a .tag) (c .before .before .before .before .if1 .taken)) (refl, refl)
+    rw (
+      c .before .before .«open» .ensures .1,
+      c .before .before .«open» .ensures .0,
+      c .before .before .before .before .before .precompute-subkeys .ensures,
+      opened-i _ _ _ _ _ (a .tag) (c .before .before .before .before .if1 .taken),
+    )
+    (refl, refl)
 
 open-requires-2 : tie.Need-open-requires-2
 open-requires-2 c κs = let g = good _ _ _ _ _ (c .before .before .before .before .before .before .before .pre) in
@@ -31,7 +37,13 @@ same-length-2 c = search needs
 
 returns-2 : tie.Need-returns-2
 returns-2 c = let a = c .before .before .before .before .before .before .before .before .before .before .args in
-    rw (c .before .before .open2 .ensures .1, c .before .before .open2 .ensures .0, c .before .before .before .before .before .precompute-subkeys .ensures, opened-ii _ _ _ _ _ (a .tag) (c .before .before .before .before .if1 .left)) (refl, refl)
+    rw (
+      c .before .before .open2 .ensures .1,
+      c .before .before .open2 .ensures .0,
+      c .before .before .before .before .before .precompute-subkeys .ensures,
+      opened-ii _ _ _ _ _ (a .tag) (c .before .before .before .before .if1 .left),
+    )
+    (refl, refl)
 
 pub recover-spec : {M : Type 1} → statement M
 recover-spec =

@@ -21,7 +21,9 @@ same-length : tie.Need-same-length
 same-length c = search needs
 
 returns-2 : tie.Need-returns-2
-returns-2 c = rw (c .before .before .before .protect .ensures .1, c .before .before .before .protect .ensures .0) (seal-done _ _ _ _ _ (sym (c .before .before .before .before .before .before .refusal .ensures) ∙ c .before .before .before .before .before .if1 .left))
+returns-2 c =
+    rw (c .before .before .before .protect .ensures .1, c .before .before .before .protect .ensures .0)
+    (seal-done _ _ _ _ _ (sym (c .before .before .before .before .before .before .refusal .ensures) ∙ c .before .before .before .before .before .if1 .left))
 
 pub seal-spec : {M : Type 1} → statement M
 seal-spec = tie.close (tie.spec refusal-requires returns protect-requires same-length returns-2)

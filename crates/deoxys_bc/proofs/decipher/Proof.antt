@@ -1,4 +1,5 @@
--- `deoxys_bc::decipher` meets its contract: what the equivalent inverse cipher has still to do, from where the loop stands, is what it had at first.
+-- `deoxys_bc::decipher` meets its contract: what the equivalent inverse cipher has still to do, from where the loop stands, is
+-- what it had at first.
 -- Assumes nothing.
 use mathlib.Core.Path.{_≡_, refl}
 use Prim.Native.Nat.{suc, _-_, _≤_}
@@ -64,8 +65,11 @@ loop-less c = search needs
 
 loop-again : tie.Need-loop-again Inv-loop μ-loop
 loop-again c = let l = c .before .before .before .before .before .before .loop in
-    let e : l .i ≡ suc (l .i - 1) = omega arith in
-    (rw (c .equiv-inv-cipher-round .ensures, c .before .before .inv-mix-columns2 .ensures, c .before .before .before .read-block2 .ensures) (rw e at (l .inv .0)), omega arith)
+    let e : l .i ≡ suc (l .i - 1) = omega arith in (
+      rw (c .equiv-inv-cipher-round .ensures, c .before .before .inv-mix-columns2 .ensures, c .before .before .before .read-block2 .ensures)
+          (rw e at (l .inv .0)),
+      omega arith,
+    )
 
 mix-columns-requires : tie.Need-mix-columns-requires Inv-loop μ-loop
 mix-columns-requires c κs = search needs
@@ -81,7 +85,15 @@ returns c = let a = c .before .before .before .before .before .before .before .b
     let fits : length (a .k .bytes) ≡ 272 = search needs in
     let parts : KeyParts (a .k) = record { bytes = record { at = λ i. byte (search needs) }; enough = omega arith } in
     let e : c .before .before .before .loop .i ≡ 0 = omega arith in
-    let done = rw (e, c .before .before .before .before .inv-mix-columns .ensures, c .before .before .before .before .before .xor-block .ensures, c .before .before .before .before .before .before .read-block .ensures, c .before .before .before .before .before .before .before .before .key-schedule .ensures, flat-decipher parts tweak small fits block) at (c .before .before .before .loop .inv .0) in
+    let done = rw (
+      e,
+      c .before .before .before .before .inv-mix-columns .ensures,
+      c .before .before .before .before .before .xor-block .ensures,
+      c .before .before .before .before .before .before .read-block .ensures,
+      c .before .before .before .before .before .before .before .before .key-schedule .ensures,
+      flat-decipher parts tweak small fits block,
+    )
+    at (c .before .before .before .loop .inv .0) in
     rw (c .raised .ensures, c .before .mix-columns .ensures, done)
 
 pub decipher-spec : {M : Type 1} → statement M

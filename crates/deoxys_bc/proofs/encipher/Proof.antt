@@ -58,7 +58,10 @@ loop-less : tie.Need-loop-less Inv-loop μ-loop
 loop-less c = search needs
 
 loop-again : tie.Need-loop-again Inv-loop μ-loop
-loop-again c = (c .cipher-round .ensures ∙ rw (c .before .before .before .before .before .loop .inv .0, c .before .before .read-block2 .ensures, add-one), omega arith)
+loop-again c = (
+  c .cipher-round .ensures ∙ rw (c .before .before .before .before .before .loop .inv .0, c .before .before .read-block2 .ensures, add-one),
+  omega arith,
+)
 
 raised-requires : tie.Need-raised-requires Inv-loop μ-loop
 raised-requires c κs = search needs
@@ -70,7 +73,15 @@ returns c = let a = c .before .before .before .before .before .before .before .b
     let fits : length (a .k .bytes) ≡ 272 = search needs in
     let parts : KeyParts (a .k) = record { bytes = record { at = λ i. byte (search needs) }; enough = omega arith } in
     let e : c .before .before .loop .i ≡ a .k .rounds = omega arith in
-    rw (c .raised .ensures, c .before .before .loop .inv .0, c .before .before .before .xor-block .ensures, c .before .before .before .before .read-block .ensures, c .before .before .before .before .before .before .key-schedule .ensures, e, flat-encipher parts tweak small fits (a .block))
+    rw (
+      c .raised .ensures,
+      c .before .before .loop .inv .0,
+      c .before .before .before .xor-block .ensures,
+      c .before .before .before .before .read-block .ensures,
+      c .before .before .before .before .before .before .key-schedule .ensures,
+      e,
+      flat-encipher parts tweak small fits (a .block),
+    )
 
 pub encipher-spec : {M : Type 1} → statement M
 encipher-spec =

@@ -12,7 +12,10 @@ use Rattle.modes.proofs.authenticate.Statement.{statement}
 use Rattle.modes.proofs.authenticate.Tie as tie
 
 abbrev Inv-loop : tie.InvT-loop
-Inv-loop k full partial text n running₀ i₀ running i = (done running (textRows k full partial text (n - i) i) ≡ done running₀ (textRows k full partial text n 0)) × (i ≤ n) × (running .count .rows ≡ running₀ .count .rows + i)
+Inv-loop k full partial text n running₀ i₀ running i =
+    (done running (textRows k full partial text (n - i) i) ≡ done running₀ (textRows k full partial text n 0))
+    × (i ≤ n) ×
+    (running .count .rows ≡ running₀ .count .rows + i)
 
 abbrev μ-loop : tie.MeasureT-loop
 μ-loop k full partial text n running₀ i₀ running i = n - i

@@ -30,8 +30,11 @@ loop-less c = search needs
 loop-again : tie.Need-loop-again Inv-loop μ-loop
 loop-again c = let a = c .before .before .args in
     let l = c .before .loop in
-    let n = zeros-length (length (a .s .now)) in
-    (upto-turn (l .s) _ (a .s .now) (l .i) 0 (l .inv .0) (omega arith) (omega arith) (zeros-at (length (a .s .now)) (l .i) (omega arith)), omega arith, simp length-set (l .inv .2))
+    let n = zeros-length (length (a .s .now)) in (
+      upto-turn (l .s) _ (a .s .now) (l .i) 0 (l .inv .0) (omega arith) (omega arith) (zeros-at (length (a .s .now)) (l .i) (omega arith)),
+      omega arith,
+      simp length-set (l .inv .2),
+    )
 
 same-length : tie.Need-same-length Inv-loop μ-loop
 same-length c = search needs

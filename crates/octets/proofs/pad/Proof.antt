@@ -43,7 +43,8 @@ returns : tie.Need-returns Inv-loop μ-loop
 returns c = let a = c .before .before .args in
     let l = c .before .loop in
     let e : l .i ≡ length (a .part .now) = omega arith in
-    ap (λ (x : List ℕ). set x (length (a .part .now)) 128) (l .inv .0 ∙ ap (λ (n : ℕ). upto (a .part .now) (replicate 16 0) n) e) ∙ padded-is (a .part .now) (search needs)
+    ap (λ (x : List ℕ). set x (length (a .part .now)) 128) (l .inv .0 ∙ ap (λ (n : ℕ). upto (a .part .now) (replicate 16 0) n) e)
+    ∙ padded-is (a .part .now) (search needs)
 
 pub pad-spec : {M : Type 1} → statement M
 pad-spec =

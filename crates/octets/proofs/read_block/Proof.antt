@@ -37,7 +37,8 @@ loop-again : tie.Need-loop-again Inv-loop μ-loop
 loop-again c = filled-more _ (c .before .before .loop .inv) (search needs) refl
 
 returns : tie.Need-returns Inv-loop μ-loop
-returns c = filled-all (c .before .loop .inv) (search needs) ∙ part-table (c .before .before .args .s .now) (c .before .before .args .at) (search needs)
+returns c =
+    filled-all (c .before .loop .inv) (search needs) ∙ part-table (c .before .before .args .s .now) (c .before .before .args .at) (search needs)
 
 pub read-block-spec : {M : Type 1} → statement M
 read-block-spec =

@@ -36,8 +36,11 @@ loop-less c = search needs
 
 loop-again : tie.Need-loop-again Inv-loop μ-loop
 loop-again c = let a = c .before .before .args in
-    let l = c .before .loop in
-    (put-turn (a .s .now) (a .t3) (a .at) (search needs) (search needs) (l .s) (l .i) (search needs) (l .inv .0), omega arith, simp length-set (l .inv .2))
+    let l = c .before .loop in (
+      put-turn (a .s .now) (a .t3) (a .at) (search needs) (search needs) (l .s) (l .i) (search needs) (l .inv .0),
+      omega arith,
+      simp length-set (l .inv .2),
+    )
 
 same-length : tie.Need-same-length Inv-loop μ-loop
 same-length c = search needs

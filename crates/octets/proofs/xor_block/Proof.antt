@@ -37,7 +37,9 @@ loop-again : tie.Need-loop-again Inv-loop μ-loop
 loop-again c = filled-more _ (c .before .loop .inv) (search needs) refl
 
 returns : tie.Need-returns Inv-loop μ-loop
-returns c = filled-all (c .before .loop .inv) (search needs) ∙ xor-table (c .before .before .args .t1) (c .before .before .args .t2) (search needs) (search needs)
+returns c =
+    filled-all (c .before .loop .inv) (search needs)
+    ∙ xor-table (c .before .before .args .t1) (c .before .before .args .t2) (search needs) (search needs)
 
 pub xor-block-spec : {M : Type 1} → statement M
 xor-block-spec =

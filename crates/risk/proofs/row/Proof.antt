@@ -22,28 +22,63 @@ block-label-requires : tie.Need-block-label-requires
 block-label-requires c κs = small _ _ _ _ (rw (c .before .before .before .rows .ensures) at (c .before .before .if1 .left))
 
 returns-2 : tie.Need-returns-2
-returns-2 c = c .block-label .ensures ∙ row-data _ _ _ _ (rw (c .before .before .before .before .rows .ensures) at (c .before .before .before .if1 .left)) (rw (c .before .before .blocks2 .ensures) at (c .before .if2 .taken))
+returns-2 c =
+    c .block-label .ensures
+    ∙ row-data _ _ _ _
+    (rw (c .before .before .before .before .rows .ensures) at (c .before .before .before .if1 .left))
+    (rw (c .before .before .blocks2 .ensures) at (c .before .if2 .taken))
 
 blocks-requires-2 : tie.Need-blocks-requires-2
 blocks-requires-2 c κs = fits _ _ _ _ (rw (c .before .before .before .rows .ensures) at (c .before .before .if1 .left)) .text-fits
 
 block-label-requires-2 : tie.Need-block-label-requires-2
-block-label-requires-2 c κs = let l = small _ _ _ _ (rw (c .before .before .before .before .before .rows .ensures) at (c .before .before .before .before .if1 .left)) in omega arith
+block-label-requires-2 c κs =
+    let l = small _ _ _ _
+    (rw (c .before .before .before .before .before .rows .ensures) at (c .before .before .before .before .if1 .left)) in
+    omega arith
 
 returns-3 : tie.Need-returns-3
-returns-3 c = c .block-label2 .ensures ∙ row-message _ _ _ _ (rw (c .before .before .before .before .before .before .rows .ensures) at (c .before .before .before .before .before .if1 .left)) _ _ (c .before .before .before .before .blocks2 .ensures) (c .before .before .blocks3 .ensures) (c .before .before .before .if2 .left) (c .before .if3 .taken)
+returns-3 c =
+    c .block-label2 .ensures
+    ∙ row-message _ _ _ _
+    (rw (c .before .before .before .before .before .before .rows .ensures) at (c .before .before .before .before .before .if1 .left))
+    _ _
+    (c .before .before .before .before .blocks2 .ensures)
+    (c .before .before .blocks3 .ensures)
+    (c .before .before .before .if2 .left)
+    (c .before .if3 .taken)
 
 returns-4 : tie.Need-returns-4
-returns-4 c = row-tag _ _ _ _ (rw (c .before .before .before .before .before .before .rows .ensures) at (c .before .before .before .before .before .if1 .left)) _ _ (c .before .before .before .before .blocks2 .ensures) (c .before .before .blocks3 .ensures) (c .before .before .before .if2 .left) (c .before .if3 .left) (c .if4 .taken)
+returns-4 c =
+    row-tag _ _ _ _
+    (rw (c .before .before .before .before .before .before .rows .ensures) at (c .before .before .before .before .before .if1 .left))
+    _ _
+    (c .before .before .before .before .blocks2 .ensures)
+    (c .before .before .blocks3 .ensures)
+    (c .before .before .before .if2 .left)
+    (c .before .if3 .left)
+    (c .if4 .taken)
 
 sub-block-label : tie.Need-sub-block-label
 sub-block-label c = search needs
 
 block-label-requires-3 : tie.Need-block-label-requires-3
-block-label-requires-3 c κs = let l = small _ _ _ _ (rw (c .before .before .before .before .before .before .rows .ensures) at (c .before .before .before .before .before .if1 .left)) in omega arith
+block-label-requires-3 c κs =
+    let l = small _ _ _ _
+    (rw (c .before .before .before .before .before .before .rows .ensures) at (c .before .before .before .before .before .if1 .left)) in
+    omega arith
 
 returns-5 : tie.Need-returns-5
-returns-5 c = c .block-label3 .ensures ∙ row-keystream _ _ _ _ (rw (c .before .before .before .before .before .before .before .rows .ensures) at (c .before .before .before .before .before .before .if1 .left)) _ _ (c .before .before .before .before .before .blocks2 .ensures) (c .before .before .before .blocks3 .ensures) (c .before .before .before .before .if2 .left) (c .before .before .if3 .left) (c .before .if4 .left)
+returns-5 c =
+    c .block-label3 .ensures
+    ∙ row-keystream _ _ _ _
+    (rw (c .before .before .before .before .before .before .before .rows .ensures) at (c .before .before .before .before .before .before .if1 .left))
+    _ _
+    (c .before .before .before .before .before .blocks2 .ensures)
+    (c .before .before .before .blocks3 .ensures)
+    (c .before .before .before .before .if2 .left)
+    (c .before .before .if3 .left)
+    (c .before .if4 .left)
 
 pub row-spec : {M : Type 1} → statement M
 row-spec =

@@ -26,7 +26,9 @@ add-result-2 : tie.Need-add-result-2
 add-result-2 c = search needs
 
 returns-2 : tie.Need-returns-2
-returns-2 c = rw (c .before .before .blocks2 .ensures, c .before .blocks3 .ensures) (table-count-i _ _ _ (sym (c .before .before .before .before .refusal .ensures) ∙ c .before .before .before .if1 .left) (c .if2 .taken))
+returns-2 c =
+    rw (c .before .before .blocks2 .ensures, c .before .blocks3 .ensures)
+    (table-count-i _ _ _ (sym (c .before .before .before .before .refusal .ensures) ∙ c .before .before .before .if1 .left) (c .if2 .taken))
 
 mul-result : tie.Need-mul-result
 mul-result c = search needs
@@ -38,7 +40,9 @@ add-result-4 : tie.Need-add-result-4
 add-result-4 c = search needs
 
 returns-3 : tie.Need-returns-3
-returns-3 c = rw (c .before .before .blocks2 .ensures, c .before .blocks3 .ensures) (table-count-ii _ _ _ (sym (c .before .before .before .before .refusal .ensures) ∙ c .before .before .before .if1 .left) (c .if2 .left))
+returns-3 c =
+    rw (c .before .before .blocks2 .ensures, c .before .blocks3 .ensures)
+    (table-count-ii _ _ _ (sym (c .before .before .before .before .refusal .ensures) ∙ c .before .before .before .if1 .left) (c .if2 .left))
 
 pub rows-spec : {M : Type 1} → statement M
 rows-spec =

@@ -16,22 +16,51 @@ key-length-requires : tie.Need-key-length-requires
 key-length-requires c κs = search needs
 
 returns-3 : tie.Need-returns-3
-returns-3 c = wrong-key _ _ _ _ _ (c .before .before .before .if1 .left) (c .before .before .if2 .left) (λ e. c .if3 .taken (e ∙ sym (c .before .key-length .ensures)))
+returns-3 c =
+    wrong-key _ _ _ _ _
+    (c .before .before .before .if1 .left)
+    (c .before .before .if2 .left)
+    (λ e. c .if3 .taken (e ∙ sym (c .before .key-length .ensures)))
 
 nonce-length-requires : tie.Need-nonce-length-requires
 nonce-length-requires c κs = search needs
 
 returns-4 : tie.Need-returns-4
-returns-4 c = wrong-nonce _ _ _ _ _ (c .before .before .before .before .before .if1 .left) (c .before .before .before .before .if2 .left) (c .before .before .if3 .left ∙ c .before .before .before .key-length .ensures) (λ e. c .if4 .taken (e ∙ sym (c .before .nonce-length .ensures)))
+returns-4 c =
+    wrong-nonce _ _ _ _ _
+    (c .before .before .before .before .before .if1 .left)
+    (c .before .before .before .before .if2 .left)
+    (c .before .before .if3 .left ∙ c .before .before .before .key-length .ensures)
+    (λ e. c .if4 .taken (e ∙ sym (c .before .nonce-length .ensures)))
 
 returns-5 : tie.Need-returns-5
-returns-5 c = long-data _ _ _ _ _ (c .before .before .before .before .before .before .if1 .left) (c .before .before .before .before .before .if2 .left) (c .before .before .before .if3 .left ∙ c .before .before .before .before .key-length .ensures) (c .before .if4 .left ∙ c .before .before .nonce-length .ensures) (c .if5 .taken)
+returns-5 c =
+    long-data _ _ _ _ _
+    (c .before .before .before .before .before .before .if1 .left)
+    (c .before .before .before .before .before .if2 .left)
+    (c .before .before .before .if3 .left ∙ c .before .before .before .before .key-length .ensures)
+    (c .before .if4 .left ∙ c .before .before .nonce-length .ensures)
+    (c .if5 .taken)
 
 returns-6 : tie.Need-returns-6
-returns-6 c = long-text _ _ _ _ _ (c .before .before .before .before .before .before .before .if1 .left) (c .before .before .before .before .before .before .if2 .left) (c .before .before .before .before .if3 .left ∙ c .before .before .before .before .before .key-length .ensures) (c .before .before .if4 .left ∙ c .before .before .before .nonce-length .ensures) (c .before .if5 .left) (c .if6 .taken)
+returns-6 c =
+    long-text _ _ _ _ _
+    (c .before .before .before .before .before .before .before .if1 .left)
+    (c .before .before .before .before .before .before .if2 .left)
+    (c .before .before .before .before .if3 .left ∙ c .before .before .before .before .before .key-length .ensures)
+    (c .before .before .if4 .left ∙ c .before .before .before .nonce-length .ensures)
+    (c .before .if5 .left)
+    (c .if6 .taken)
 
 returns-7 : tie.Need-returns-7
-returns-7 c = none _ _ _ _ _ (c .before .before .before .before .before .before .before .if1 .left) (c .before .before .before .before .before .before .if2 .left) (c .before .before .before .before .if3 .left ∙ c .before .before .before .before .before .key-length .ensures) (c .before .before .if4 .left ∙ c .before .before .before .nonce-length .ensures) (c .before .if5 .left) (c .if6 .left)
+returns-7 c =
+    none _ _ _ _ _
+    (c .before .before .before .before .before .before .before .if1 .left)
+    (c .before .before .before .before .before .before .if2 .left)
+    (c .before .before .before .before .if3 .left ∙ c .before .before .before .before .before .key-length .ensures)
+    (c .before .before .if4 .left ∙ c .before .before .before .nonce-length .ensures)
+    (c .before .if5 .left)
+    (c .if6 .left)
 
 pub refusal-spec : {M : Type 1} → statement M
 refusal-spec =

@@ -1,4 +1,5 @@
--- `deoxys_bc::tweakey::expand` meets its contract: after i turns i key parts lie end to end, and TK3 and TK2 have taken i steps; here the round constants are tested, once.
+-- `deoxys_bc::tweakey::expand` meets its contract: after i turns i key parts lie end to end, and TK3 and TK2 have taken i
+-- steps; here the round constants are tested, once.
 -- Assumes nothing.
 use mathlib.Core.Path.{_≡_, refl, _∙_}
 use Prim.Native.Nat.{_+_, _-_, _≤_}
@@ -15,7 +16,8 @@ use Rattle.deoxys_bc.proofs.tweakey.expand.Statement.{statement}
 use Rattle.deoxys_bc.proofs.tweakey.expand.Tie as tie
 
 abbrev Inv-loop : tie.InvT-loop
-Inv-loop rounds perm constants bytes₀ t3₀ t2₀ i₀ i-end bytes t3 t2 i = (bytes ≡ flat (λ j. tk3 j t3₀ ⊕ tk2 j t2₀ ⊕ constantBlock j) i) × (t3 ≡ tk3 i t3₀) × (t2 ≡ tk2 i t2₀) × (i ≤ rounds + 1) × (length bytes ≡ 272)
+Inv-loop rounds perm constants bytes₀ t3₀ t2₀ i₀ i-end bytes t3 t2 i =
+    (bytes ≡ flat (λ j. tk3 j t3₀ ⊕ tk2 j t2₀ ⊕ constantBlock j) i) × (t3 ≡ tk3 i t3₀) × (t2 ≡ tk2 i t2₀) × (i ≤ rounds + 1) × (length bytes ≡ 272)
 
 abbrev μ-loop : tie.MeasureT-loop
 μ-loop rounds perm constants bytes₀ t3₀ t2₀ i₀ i-end bytes t3 t2 i = rounds + 1 - i
@@ -67,16 +69,20 @@ loop-less : tie.Need-loop-less Inv-loop μ-loop
 loop-less c = search needs
 
 loop-again : tie.Need-loop-again Inv-loop μ-loop
-loop-again c = let l = c .before .before .before .before .before .before .before .before .before .before .before .before .before .before .loop in
-    let third : Block (c .before .before .before .before .before .before .before .before .before .before .before .before .before .before .before .args .third) = record { size = search needs; bytes = record { at = λ i. byte (search needs) } } in
-    let second : Block (c .before .before .before .before .before .before .before .before .before .before .before .before .before .before .before .args .second) = record { size = search needs; bytes = record { at = λ i. byte (search needs) } } in (
-      c .before .before .before .before .before .before .before .write-block .ensures
-          ∙ flat-turn _ (λ j b. part-length j third second) (l .i) (l .bytes) (c .before .before .before .before .before .before .before .before .before .xor-block2 .result) (search needs) (l .inv .0)
-          (rw (c .before .before .before .before .before .before .before .before .before .xor-block2 .ensures, c .before .before .before .before .before .before .before .before .before .before .constant-block .ensures, c .before .before .before .before .before .before .before .before .before .before .before .before .xor-block .ensures, l .inv .1, l .inv .2)),
+loop-again c =
+    let written = c .before .before .before .before .before .before .before in
+    let first = written .before .before .before .before .before in
+    let l = first .before .before .loop in
+    let a = first .before .before .before .args in
+    let third : Block (a .third) = record { size = search needs; bytes = record { at = λ i. byte (search needs) } } in
+    let second : Block (a .second) = record { size = search needs; bytes = record { at = λ i. byte (search needs) } } in (
+      written .write-block .ensures
+          ∙ flat-turn _ (λ j b. part-length j third second) (l .i) (l .bytes) (written .before .before .xor-block2 .result) (search needs) (l .inv .0)
+          (rw (written .before .before .xor-block2 .ensures, written .before .before .before .constant-block .ensures, first .xor-block .ensures, l .inv .1, l .inv .2)),
       rw (c .before .before .before .lfsr3 .ensures, c .before .before .before .before .h-substitution .ensures, l .inv .1) (tk3-step (l .i) _),
       rw (c .lfsr2 .ensures, c .before .h-substitution2 .ensures, l .inv .2) (tk2-step (l .i) _),
       omega arith,
-      c .before .before .before .before .before .before .before .write-block .kept .0 ∙ l .inv .4,
+      written .write-block .kept .0 ∙ l .inv .4,
     )
 
 returns : tie.Need-returns Inv-loop μ-loop

@@ -25,7 +25,8 @@ element-copy-out-out : tie.Need-element-copy-out-out Inv-loop μ-loop
 element-copy-out-out c = search needs
 
 cast-out : tie.Need-cast-out Inv-loop μ-loop
-cast-out c = record { fits = rw (c .before .before .before .pre) (lt-of-lt-of-le (place-below (c .before .before .loop .i) (search needs)) (lit≤ tt)) }
+cast-out c =
+    record { fits = rw (c .before .before .before .pre) (lt-of-lt-of-le (place-below (c .before .before .loop .i) (search needs)) (lit≤ tt)) }
 
 array-read-out : tie.Need-array-read-out Inv-loop μ-loop
 array-read-out c = rw (c .before .before .before .pre) (place-below (c .before .before .loop .i) (search needs))

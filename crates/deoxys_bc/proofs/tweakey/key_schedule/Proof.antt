@@ -58,14 +58,17 @@ loop-less c = search needs
 
 loop-again : tie.Need-loop-again Inv-loop μ-loop
 unfolding roundKey
-loop-again c = let l = c .before .before .before .before .before .before .before .before .before .before .before .loop in
-    let tweak : Block (c .before .before .before .before .before .before .before .before .before .before .before .before .args .tweak) = record { size = search needs; bytes = record { at = λ i. byte (search needs) } } in (
-      c .before .before .before .write-block .ensures
-          ∙ flat-turn _ (λ j b. roundKey-length (c .before .before .before .before .before .before .before .before .before .before .before .before .args .t1) j tweak (search needs)) (l .i) (l .keys) (c .before .before .before .before .before .xor-block .result) (search needs) (l .inv .0)
-          (rw (c .before .before .before .before .before .xor-block .ensures, c .before .before .before .before .before .before .read-block .ensures, l .inv .1)),
+loop-again c =
+    let written = c .before .before .before in
+    let l = written .before .before .before .before .before .before .before .before .loop in
+    let a = written .before .before .before .before .before .before .before .before .before .args in
+    let tweak : Block (a .tweak) = record { size = search needs; bytes = record { at = λ i. byte (search needs) } } in (
+      written .write-block .ensures
+          ∙ flat-turn _ (λ j b. roundKey-length (a .t1) j tweak (search needs)) (l .i) (l .keys) (written .before .before .xor-block .result) (search needs) (l .inv .0)
+          (rw (written .before .before .xor-block .ensures, written .before .before .before .read-block .ensures, l .inv .1)),
       rw (c .h-substitution .ensures, l .inv .1) (tweak-step (l .i) _),
       omega arith,
-      c .before .before .before .write-block .kept .0 ∙ l .inv .3,
+      written .write-block .kept .0 ∙ l .inv .3,
     )
 
 returns : tie.Need-returns Inv-loop μ-loop

@@ -22,7 +22,8 @@ expand-requires c κs = search needs
 
 returns : tie.Need-returns
 returns c = let whole = take-all 16 (c .before .before .before .before .args .key .now) (search needs) in
-    let key : Block (c .before .before .before .before .args .key .now) = record { size = c .before .before .if1 .taken; bytes = record { at = λ i. byte (c .before .before .before .shared-slice-known .given i) } } in
+    let key : Block (c .before .before .before .before .args .key .now) =
+    record { size = c .before .before .if1 .taken; bytes = record { at = λ i. byte (c .before .before .before .shared-slice-known .given i) } } in
     c .expand .ensures ∙ rw (c .before .read-block .ensures, whole) (expanded-16 key)
 
 read-block-requires-2 : tie.Need-read-block-requires-2
@@ -36,7 +37,9 @@ expand-requires-2 c κs = search needs
 
 returns-2 : tie.Need-returns-2
 returns-2 c = let e = long (c .before .before .before .before .before .pre) (c .before .before .before .if1 .left) in
-    c .expand2 .ensures ∙ rw (c .before .read-block3 .ensures, c .before .before .read-block2 .ensures) (expanded-32 (c .before .before .before .before .before .args .key .now) e)
+    c .expand2 .ensures
+    ∙ rw (c .before .read-block3 .ensures, c .before .before .read-block2 .ensures)
+    (expanded-32 (c .before .before .before .before .before .args .key .now) e)
 
 pub precompute-subkeys-spec : {M : Type 1} → statement M
 precompute-subkeys-spec =

@@ -1,4 +1,5 @@
--- `modes::deoxys_i::crypt_message` meets its contract: what is still to do of the buffer, from where the loop stands, gives what there was to do at first.
+-- `modes::deoxys_i::crypt_message` meets its contract: what is still to do of the buffer, from where the loop stands, gives
+-- what there was to do at first.
 -- Assumes nothing.
 use mathlib.Core.Path.{_≡_, refl, _∙_}
 use Prim.Native.Nat.{_+_, _-_, _≤_}
@@ -15,7 +16,8 @@ use Rattle.modes.proofs.deoxys_i.crypt_message.Statement.{statement}
 use Rattle.modes.proofs.deoxys_i.crypt_message.Tie as tie
 
 abbrev Inv-loop : tie.InvT-loop
-Inv-loop k nonce buffer₀ opening n running₀ i₀ buffer running i = Crypting (direction opening k) k nonce n i buffer (running .rows) (textOf n (messageRows (direction opening k) k nonce n 0 buffer₀) buffer₀)
+Inv-loop k nonce buffer₀ opening n running₀ i₀ buffer running i =
+    Crypting (direction opening k) k nonce n i buffer (running .rows) (textOf n (messageRows (direction opening k) k nonce n 0 buffer₀) buffer₀)
     (running₀ .rows + length (messageRows (direction opening k) k nonce n 0 buffer₀))
     × (i ≤ n) × (length buffer ≡ length buffer₀) × (running .rows ≡ running₀ .rows + i)
 
@@ -36,7 +38,11 @@ loop-less c = search needs
 
 loop-again : tie.Need-loop-again Inv-loop μ-loop
 loop-again c = let l = c .before .before .before .before .before .loop in
-    let t = crypt-turn _ _ _ _ _ _ _ _ _ (l .inv .0) (c .before .before .crypt-turn .last .1 .1 .0) (search needs) (search needs) (c .before .before .crypt-turn .kept .1 .1 .0) (c .before .before .crypt-turn .ensures .1) in
+    let t = crypt-turn _ _ _ _ _ _ _ _ _ (l .inv .0)
+    (c .before .before .crypt-turn .last .1 .1 .0)
+    (search needs) (search needs)
+    (c .before .before .crypt-turn .kept .1 .1 .0)
+    (c .before .before .crypt-turn .ensures .1) in
     rw (c .before .before .crypt-turn .ensures .0) (t, search needs, c .before .before .crypt-turn .kept .1 .1 .0 ∙ l .inv .2, omega arith)
 
 mul-at : tie.Need-mul-at Inv-loop μ-loop
@@ -67,7 +73,14 @@ returns : tie.Need-returns Inv-loop μ-loop
 unfolding zeroBlock
 returns c = let l = c .before .before .before .before .before .before .before .before .before .before .loop in
     let t = crypt-part _ _ _ _ _ _ _ _ _ (l .inv .0) (omega arith) (omega arith) in
-    rw (rest-put, c .before .before .before .xor-into .ensures, c .before .before .before .before .before .before .encipher .ensures, c .before .before .before .before .before .before .before .nonce-tweak .ensures, rest-is) (counted (t .0), t .1)
+    rw (
+      rest-put,
+      c .before .before .before .xor-into .ensures,
+      c .before .before .before .before .before .before .encipher .ensures,
+      c .before .before .before .before .before .before .before .nonce-tweak .ensures,
+      rest-is,
+    )
+    (counted (t .0), t .1)
 
 same-length-2 : tie.Need-same-length-2 Inv-loop μ-loop
 same-length-2 c = search needs

@@ -24,7 +24,14 @@ same-length : tie.Need-same-length
 same-length c = search needs
 
 returns : tie.Need-returns
-returns c = rw (c .before .before .before .write-block .ensures, c .before .before .before .before .before .before .crypt-block .ensures, c .before .before .before .before .before .before .before .nonce-tweak .ensures, c .before .before .before .before .before .before .before .before .read-block .ensures) (refl, refl)
+returns c =
+    rw (
+      c .before .before .before .write-block .ensures,
+      c .before .before .before .before .before .before .crypt-block .ensures,
+      c .before .before .before .before .before .before .before .nonce-tweak .ensures,
+      c .before .before .before .before .before .before .before .before .read-block .ensures,
+    )
+    (refl, refl)
 
 pub crypt-turn-spec : {M : Type 1} → statement M
 crypt-turn-spec =

@@ -25,7 +25,8 @@ tag-requires : tie.Need-tag-requires
 tag-requires c κs = let a = c .before .before .before .before .before .before .before .before .before .before .before .before .args in
     let ad = auth-count (a .k) 32 96 (a .ad .now) in
     let message = crypt-count (direction false (a .k)) (a .k) (a .nonce .now) (a .buffer .now) in
-    rw (c .before .before .before .crypt-message .ensures .0, c .before .before .before .before .before .before .before .before .compute-ad-tag .ensures) (search needs, search needs, search needs, omega arith)
+    rw (c .before .before .before .crypt-message .ensures .0, c .before .before .before .before .before .before .before .before .compute-ad-tag .ensures)
+    (search needs, search needs, search needs, omega arith)
 
 same-length : tie.Need-same-length
 same-length c = search needs
@@ -33,7 +34,12 @@ same-length c = search needs
 returns : tie.Need-returns
 unfolding sealI
 returns c = let a = c .before .before .before .before .before .before .before .before .before .before .before .before .before .args in (
-  rw (c .tag .ensures, c .before .before .before .before .crypt-message .ensures .0, c .before .before .before .before .before .before .before .checksum .ensures, c .before .before .before .before .before .before .before .before .before .compute-ad-tag .ensures)
+  rw (
+    c .tag .ensures,
+    c .before .before .before .before .crypt-message .ensures .0,
+    c .before .before .before .before .before .before .before .checksum .ensures,
+    c .before .before .before .before .before .before .before .before .before .compute-ad-tag .ensures,
+  )
       (sealed-i (a .k) (a .nonce .now) (a .ad .now) (a .buffer .now) _ (c .before .before .before .before .crypt-message .kept .1 .1 .0)),
   c .before .before .before .before .crypt-message .ensures .1,
 )

@@ -28,7 +28,13 @@ xor-block-requires : tie.Need-xor-block-requires
 xor-block-requires c κs = search needs
 
 returns : tie.Need-returns
-returns c = rw (c .before .xor-block .ensures, c .before .before .before .encipher .ensures, c .before .before .before .before .nonce-tweak .ensures, c .before .before .before .before .before .tag-kind .ensures)
+returns c =
+    rw (
+      c .before .xor-block .ensures,
+      c .before .before .before .encipher .ensures,
+      c .before .before .before .before .nonce-tweak .ensures,
+      c .before .before .before .before .before .tag-kind .ensures,
+    )
 
 pub tag-spec : {M : Type 1} → statement M
 tag-spec =

@@ -23,11 +23,15 @@ same-length : tie.Need-same-length
 same-length c = search needs
 
 returns : tie.Need-returns
-returns c = let a = c .before .before .before .before .before .before .before .before .before .args in
-    let made = rw (c .before .before .before .before .before .before .before .keystream-tweak .ensures) at (c .before .before .before .before .before .before .encipher .ensures) in
+returns c =
+    let called = c .before .before .before .before .before .before in
+    let a = called .before .before .before .args in
+    let made = rw (called .before .keystream-tweak .ensures) at (called .encipher .ensures) in
     let block = ap (λ (r : Called). r .block) made in
-    let size : length (c .before .before .before .before .before .before .encipher .result .block) ≡ 16 = search needs in
-    (ap (λ (r : Called). r .count) made, (c .before .before .before .xor-into .ensures ∙ ap (λ (s : List ℕ). a .part .now ⊕ s) block, rw block at size))
+    let size : length (called .encipher .result .block) ≡ 16 = search needs in (
+      ap (λ (r : Called). r .count) made,
+      (c .before .before .before .xor-into .ensures ∙ ap (λ (s : List ℕ). a .part .now ⊕ s) block, rw block at size),
+    )
 
 pub crypt-block-spec : {M : Type 1} → statement M
 crypt-block-spec =

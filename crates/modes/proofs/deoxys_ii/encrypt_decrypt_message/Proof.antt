@@ -1,4 +1,5 @@
--- `modes::deoxys_ii::encrypt_decrypt_message` meets its contract: what is still to do of the buffer, from where the loop stands, gives what there was to do at first.
+-- `modes::deoxys_ii::encrypt_decrypt_message` meets its contract: what is still to do of the buffer, from where the loop
+-- stands, gives what there was to do at first.
 -- Assumes nothing.
 use mathlib.Core.Path.{_≡_, refl}
 use Prim.Native.Nat.{_+_, _-_, _/_, _≤_}
@@ -15,7 +16,8 @@ use Rattle.modes.proofs.deoxys_ii.encrypt_decrypt_message.Statement.{st
 use Rattle.modes.proofs.deoxys_ii.encrypt_decrypt_message.Tie as tie
 
 abbrev Inv-loop : tie.InvT-loop
-Inv-loop k tag nonce buffer₀ block n running₀ j₀ buffer running j = Streaming k tag nonce (blocks buffer₀) j buffer (running .rows) (buffer₀ ⊕ given (keystreamFrom k tag nonce (blocks buffer₀) 0))
+Inv-loop k tag nonce buffer₀ block n running₀ j₀ buffer running j =
+    Streaming k tag nonce (blocks buffer₀) j buffer (running .rows) (buffer₀ ⊕ given (keystreamFrom k tag nonce (blocks buffer₀) 0))
     (running₀ .rows + length (keystreamFrom k tag nonce (blocks buffer₀) 0))
     × (j ≤ n) × (length buffer ≡ length buffer₀) × (running .rows ≡ running₀ .rows + j)
 
@@ -81,7 +83,15 @@ returns : tie.Need-returns Inv-loop μ-loop
 returns c = let l = c .before .before .before .before .before .before .loop in
     let e : l .j ≡ length (c .before .before .before .before .before .before .before .before .before .before .args .buffer .now) / 16 = omega arith in
     let t = stream-part _ _ _ _ _ _ _ _ _ (l .inv .0) (omega arith) in
-    rw (rest-put, c .before .before .crypt-block2 .ensures .1 .0, c .before .before .crypt-block2 .ensures .0, c .before .before .before .before .before .before .before .prefixed .ensures, rest-is, ← e) (counted (t .0), t .1)
+    rw (
+      rest-put,
+      c .before .before .crypt-block2 .ensures .1 .0,
+      c .before .before .crypt-block2 .ensures .0,
+      c .before .before .before .before .before .before .before .prefixed .ensures,
+      rest-is,
+      ← e,
+    )
+    (counted (t .0), t .1)
 
 same-length-2 : tie.Need-same-length-2 Inv-loop μ-loop
 same-length-2 c = search needs

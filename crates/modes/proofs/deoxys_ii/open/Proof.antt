@@ -21,7 +21,11 @@ authenticate-message-requires : tie.Need-authenticate-message-requires
 authenticate-message-requires c κs = let a = c .before .before .before .before .before .before .before .before .before .before .before .args in
     let ad = auth-count (a .k) 32 96 (a .ad .now) in
     let stream = keystream-count (a .k) (a .given) (a .nonce .now) (a .buffer .now) in
-    rw (c .before .before .before .encrypt-decrypt-message .ensures .0, c .before .before .before .before .before .before .before .compute-ad-tag .ensures) (search needs, omega arith)
+    rw (
+      c .before .before .before .encrypt-decrypt-message .ensures .0,
+      c .before .before .before .before .before .before .before .compute-ad-tag .ensures,
+    )
+    (search needs, omega arith)
 
 tag-requires : tie.Need-tag-requires
 tag-requires c κs = let a = c .before .before .before .before .before .before .before .before .before .before .before .before .args in
@@ -29,7 +33,12 @@ tag-requires c κs = let a = c .before .before .before .before .before .before .
     let stream = keystream-count (a .k) (a .given) (a .nonce .now) (a .buffer .now) in
     let message = auth-count (a .k) 0 64 (c .before .before .before .before .encrypt-decrypt-message .last .1 .1 .1 .0) in
     let kept = c .before .before .before .before .encrypt-decrypt-message .kept .1 .1 .1 .0 in
-    rw (c .authenticate-message .ensures, c .before .before .before .before .encrypt-decrypt-message .ensures .0, c .before .before .before .before .before .before .before .before .compute-ad-tag .ensures) (search needs, search needs, omega arith)
+    rw (
+      c .authenticate-message .ensures,
+      c .before .before .before .before .encrypt-decrypt-message .ensures .0,
+      c .before .before .before .before .before .before .before .before .compute-ad-tag .ensures,
+    )
+    (search needs, search needs, omega arith)
 
 same-length : tie.Need-same-length
 same-length c = search needs
@@ -37,7 +46,13 @@ same-length c = search needs
 returns : tie.Need-returns
 unfolding openII
 returns c = let a = c .before .before .before .before .before .before .before .before .before .before .before .before .before .args in
-    rw (c .tag .ensures, c .before .authenticate-message .ensures, c .before .before .before .before .before .encrypt-decrypt-message .ensures .1, c .before .before .before .before .before .encrypt-decrypt-message .ensures .0, c .before .before .before .before .before .before .before .before .before .compute-ad-tag .ensures)
+    rw (
+      c .tag .ensures,
+      c .before .authenticate-message .ensures,
+      c .before .before .before .before .before .encrypt-decrypt-message .ensures .1,
+      c .before .before .before .before .before .encrypt-decrypt-message .ensures .0,
+      c .before .before .before .before .before .before .before .before .before .compute-ad-tag .ensures,
+    )
     (opened-ii (a .k) (a .nonce .now) (a .ad .now) (a .buffer .now) (a .given), refl)
 
 pub open-spec : {M : Type 1} → statement M

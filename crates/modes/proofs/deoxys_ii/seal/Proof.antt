@@ -27,7 +27,12 @@ encrypt-decrypt-message-requires : tie.Need-encrypt-decrypt-message-requires
 encrypt-decrypt-message-requires c κs = let a = c .before .before .before .before .before .before .before .before .before .before .args in
     let ad = auth-count (a .k) 32 96 (a .ad .now) in
     let message = auth-count (a .k) 0 64 (a .buffer .now) in
-    rw (c .before .before .before .tag .ensures, c .before .before .before .before .authenticate-message .ensures, c .before .before .before .before .before .compute-ad-tag .ensures) (search needs, search needs, omega arith)
+    rw (
+      c .before .before .before .tag .ensures,
+      c .before .before .before .before .authenticate-message .ensures,
+      c .before .before .before .before .before .compute-ad-tag .ensures,
+    )
+    (search needs, search needs, omega arith)
 
 same-length : tie.Need-same-length
 same-length c = search needs
@@ -35,7 +40,13 @@ same-length c = search needs
 returns : tie.Need-returns
 unfolding sealII
 returns c = let a = c .before .before .before .before .before .before .before .before .before .before .before .before .before .args in
-    rw (c .before .before .encrypt-decrypt-message .ensures .1, c .before .before .encrypt-decrypt-message .ensures .0, c .before .before .before .before .before .before .tag .ensures, c .before .before .before .before .before .before .before .authenticate-message .ensures, c .before .before .before .before .before .before .before .before .compute-ad-tag .ensures)
+    rw (
+      c .before .before .encrypt-decrypt-message .ensures .1,
+      c .before .before .encrypt-decrypt-message .ensures .0,
+      c .before .before .before .before .before .before .tag .ensures,
+      c .before .before .before .before .before .before .before .authenticate-message .ensures,
+      c .before .before .before .before .before .before .before .before .compute-ad-tag .ensures,
+    )
     (sealed-ii (a .k) (a .nonce .now) (a .ad .now) (a .buffer .now), refl)
 
 pub seal-spec : {M : Type 1} → statement M

@@ -16,7 +16,8 @@ use Rattle.modes.proofs.tweaks.nonce_tweak.Statement.{statement}
 use Rattle.modes.proofs.tweaks.nonce_tweak.Tie as tie
 
 abbrev Inv-loop : tie.InvT-loop
-Inv-loop kind nonce i out₀ half₀ j₀ out half j = (out ≡ upto (table (packed kind nonce) 8) (numbered 0 i) j) × (half ≡ leftOver kind nonce j) × (half < 16) × (j ≤ 8) × (length out ≡ 16)
+Inv-loop kind nonce i out₀ half₀ j₀ out half j =
+    (out ≡ upto (table (packed kind nonce) 8) (numbered 0 i) j) × (half ≡ leftOver kind nonce j) × (half < 16) × (j ≤ 8) × (length out ≡ 16)
 
 abbrev μ-loop : tie.MeasureT-loop
 μ-loop kind nonce i out₀ half₀ j₀ out half j = 8 - j

@@ -40,8 +40,10 @@ loop-less c = search needs
 
 loop-again : tie.Need-loop-again Inv-loop μ-loop
 loop-again c = let l = c .before .before .loop in
-    let a = c .before .before .before .args in
-    (upto-turn (l .out) (a .first ∷ a .nonce .now) (a .first ∷ replicate 15 0) (l .i + 1) _ (l .inv .0) (omega arith) (omega arith) (rw add-one), omega arith)
+    let a = c .before .before .before .args in (
+      upto-turn (l .out) (a .first ∷ a .nonce .now) (a .first ∷ replicate 15 0) (l .i + 1) _ (l .inv .0) (omega arith) (omega arith) (rw add-one),
+      omega arith,
+    )
 
 returns : tie.Need-returns Inv-loop μ-loop
 returns c = let l = c .before .loop in

@@ -47,7 +47,11 @@ loop-less : tie.Need-loop-less Inv-loop μ-loop
 loop-less c = search needs
 
 loop-again : tie.Need-loop-again Inv-loop μ-loop
-loop-again c = (search needs, rw (c .least .ensures) (reading-turn _ _ _ (c .before .before .before .before .before .loop .inv .1) (omega arith) (c .before .before .if1 .left) (c .before .if2 .left)))
+loop-again c = (
+  search needs,
+  rw (c .least .ensures)
+      (reading-turn _ _ _ (c .before .before .before .before .before .loop .inv .1) (omega arith) (c .before .before .if1 .left) (c .before .if2 .left)),
+)
 
 returns-3 : tie.Need-returns-3 Inv-loop μ-loop
 returns-3 c = reading-end _ _ _ (c .before .loop .inv .1) (omega arith)

@@ -44,7 +44,14 @@ same-length : tie.Need-same-length
 same-length c = search needs
 
 returns : tie.Need-returns
-returns c = parcel-opened _ _ _ _ _ (c .before .before .before .before .before .before .copy .ensures .0) (c .before .before .before .before .before .before .copy .ensures .1) _ _ _ _ _ _ (c .before .before .before .before .before .before .before .before .before .before .tag-at .ensures) (c .before .before .«open» .kept .1 .1 .1 .1 .0) (c .before .before .«open» .ensures)
+returns c =
+    parcel-opened _ _ _ _ _
+    (c .before .before .before .before .before .before .copy .ensures .0)
+    (c .before .before .before .before .before .before .copy .ensures .1)
+    _ _ _ _ _ _
+    (c .before .before .before .before .before .before .before .before .before .before .tag-at .ensures)
+    (c .before .before .«open» .kept .1 .1 .1 .1 .0)
+    (c .before .before .«open» .ensures)
 
 pub open-spec : {M : Type 1} → statement M
 open-spec =

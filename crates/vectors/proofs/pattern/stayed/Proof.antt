@@ -27,7 +27,10 @@ at-requires : tie.Need-at-requires Inv-loop μ-loop
 at-requires c κs = search needs
 
 returns : tie.Need-returns Inv-loop μ-loop
-returns c = (λ e. absurd (false≢true e), λ f. absurd (c .if1 .taken (f .at (c .before .before .before .before .loop .i) (search needs) (search needs) ∙ sym (c .before .at .ensures))))
+returns c = (
+  λ e. absurd (false≢true e),
+  λ f. absurd (c .if1 .taken (f .at (c .before .before .before .before .loop .i) (search needs) (search needs) ∙ sym (c .before .at .ensures))),
+)
 
 add-i : tie.Need-add-i Inv-loop μ-loop
 add-i c = search needs

@@ -37,11 +37,20 @@ loop-again : tie.Need-loop-again Inv-loop μ-loop
 loop-again c = (
   search needs,
   λ e. let w = c .with-digit .ensures e in
-      digits-more (c .before .before .before .before .before .args .field .now) (c .before .before .before .loop .i) (c .before .before .before .loop .n .value) (c .with-digit .result .value) (search needs) (c .before .before .before .loop .inv .1 (w .0)) (w .1) (w .2),
+      digits-more
+      (c .before .before .before .before .before .args .field .now)
+      (c .before .before .before .loop .i)
+      (c .before .before .before .loop .n .value)
+      (c .with-digit .result .value)
+      (search needs)
+      (c .before .before .before .loop .inv .1 (w .0))
+      (w .1) (w .2),
 )
 
 returns : tie.Need-returns Inv-loop μ-loop
-returns c = λ e. let l = c .before .loop in let d : l .i ≡ length (c .before .before .before .args .field .now) = omega arith in sym (take-length _) ∙ (rw d at (l .inv .1 e))
+returns c =
+    λ e. let l = c .before .loop in let d : l .i ≡ length (c .before .before .before .args .field .now) = omega arith in sym (take-length _)
+    ∙ (rw d at (l .inv .1 e))
 
 pub decimal-spec : {M : Type 1} → statement M
 decimal-spec =

@@ -45,7 +45,11 @@ part-result-end : tie.Need-part-result-end Inv-loop μ-loop
 part-result-end c = search needs
 
 returns : tie.Need-returns Inv-loop μ-loop
-returns c = let l = c .before .before .before .loop in let e : c .before .before .before .before .before .args .k - l .counter ≡ 0 = omega arith in this-field _ _ _ (c .before .find .ensures .0) ∙ (rw e at (l .inv .2))
+returns c =
+    let l =
+    c .before .before .before .loop in let e : c .before .before .before .before .before .args .k - l .counter ≡ 0 = omega arith in this-field _ _ _
+    (c .before .find .ensures .0)
+    ∙ (rw e at (l .inv .2))
 
 pub field-spec : {M : Type 1} → statement M
 field-spec =

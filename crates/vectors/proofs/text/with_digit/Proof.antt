@@ -16,7 +16,12 @@ add-t9 : tie.Need-add-t9
 add-t9 c = search needs
 
 returns : tie.Need-returns
-returns c = λ e. let o = one-digit (c .before .before .before .before .before .args .n .value) (c .before .before .before .before .before .args .byte) (search needs) (search needs) in (e, o .0, o .1)
+returns c =
+    λ e. let o = one-digit
+    (c .before .before .before .before .before .args .n .value)
+    (c .before .before .before .before .before .args .byte)
+    (search needs) (search needs) in
+    (e, o .0, o .1)
 
 returns-2 : tie.Need-returns-2
 returns-2 c = λ e. absurd (false≢true e)

@@ -21,7 +21,9 @@ copy-requires : tie.Need-copy-requires
 copy-requires c κs = search needs
 
 returns : tie.Need-returns
-returns c = let t = c .before .before .before .before .args .text .now in let e = laid t _ (c .before .copy .ensures .1) in let h : length t ≤ 64 = search needs in
+returns c =
+    let t =
+    c .before .before .before .before .args .text .now in let e = laid t _ (c .before .copy .ensures .1) in let h : length t ≤ 64 = search needs in
     (rw e (simp (length-append, length-replicate) (omega arith)), rw e)
 
 pub laid-out-spec : {M : Type 1} → statement M

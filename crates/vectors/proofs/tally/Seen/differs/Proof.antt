@@ -28,7 +28,15 @@ returns-5 : tie.Need-returns-5
 returns-5 c = λ e. absurd (not-nothing tt e)
 
 returns-6 : tie.Need-returns-6
-returns-6 c = λ e. (c .before .before .before .before .before .before .before .before .before .if1 .left, c .before .before .before .before .before .before .before .same .ensures .0 (not-false _ (c .before .before .before .before .before .before .if2 .left)), c .before .before .before .before .if3 .left, not-false _ (c .before .before .if4 .left), not-false _ (c .if5 .left))
+returns-6 c =
+    λ e. (
+      c .before .before .before .before .before .before .before .before .before .if1 .left,
+      c .before .before .before .before .before .before .before .same .ensures .0
+          (not-false _ (c .before .before .before .before .before .before .if2 .left)),
+      c .before .before .before .before .if3 .left,
+      not-false _ (c .before .before .if4 .left),
+      not-false _ (c .if5 .left),
+    )
 
 pub differs-spec : {M : Type 1} → statement M
 differs-spec =
