@@ -1,5 +1,6 @@
 -- Sealing and opening, for any suite number and any bytes: document 01, "Numbers an entry point answers with".
 -- Assumes nothing.
+use mathlib.Core.Path.{_≡_}
 use mathlib.Core.List.{List}
 use Prim.Native.Nat.{ℕ}
 use lib.Dec.{eqb}
@@ -57,3 +58,10 @@ opening suite key nonce ad cipher tag =
     (pick (eqb (length tag) 16) (judged cipher tag (opened suite key nonce ad cipher tag))
     (record { answer = record { number = 6; rows = 0 }; buffer = cipher }))
     (record { answer = record { number = refusal suite (length key) (length nonce) (length ad) (length cipher); rows = 0 }; buffer = cipher })
+
+-- the contracts of `seal` and `open`: an outcome is allowed where it is the definition's
+abbrev pub SealAllows : ℕ → List ℕ → List ℕ → List ℕ → List ℕ → Sealing → Type 0
+SealAllows suite key nonce ad message outcome = outcome ≡ sealing suite key nonce ad message
+
+abbrev pub OpenAllows : ℕ → List ℕ → List ℕ → List ℕ → List ℕ → List ℕ → Opening → Type 0
+OpenAllows suite key nonce ad cipher tag outcome = outcome ≡ opening suite key nonce ad cipher tag

@@ -3,7 +3,7 @@ ghost use mathlib.Core.Path.{_≡_};
 ghost use lib.ListN.{length};
 ghost use Rattle.modes.specs.Answers.{answered};
 ghost use Rattle.deoxys.specs.Suites.{refusal};
-ghost use Rattle.deoxys.specs.Entry.{Sealing, Opening, sealed, opened, sealing, opening};
+ghost use Rattle.deoxys.specs.Entry.{sealed, opened, SealAllows, OpenAllows};
 
 pub mod suites;
 
@@ -41,8 +41,8 @@ fn protect(suite: u8, key: &[u8], nonce: &[u8], ad: &[u8], buffer: &mut [u8]) ->
 
 // Seals the buffer in place, or refuses and leaves it as it was.
 pub fn seal(suite: u8, key: &[u8], nonce: &[u8], ad: &[u8], buffer: &mut [u8]) -> Sealed
-    ensures { λ r. ⌜ _≡_ {A = Sealing} (record { answer = r; buffer = now (buffer .exit) })
-        (sealing suite (now (key .entry)) (now (nonce .entry)) (now (ad .entry)) (now (buffer .entry))) ⌝ }
+    ensures { λ r. ⌜ SealAllows suite (now (key .entry)) (now (nonce .entry)) (now (ad .entry)) (now (buffer .entry))
+        (record { answer = r; buffer = now (buffer .exit) }) ⌝ }
 {
     let number = suites::refusal(suite, key.len(), nonce.len(), ad.len(), buffer.len());
     if number != 0 {
@@ -83,8 +83,8 @@ fn recover(
 
 // Opens the buffer in place. A wrong tag leaves zeros, every other refusal the buffer as it was.
 pub fn open(suite: u8, key: &[u8], nonce: &[u8], ad: &[u8], buffer: &mut [u8], tag: &[u8]) -> Opened
-    ensures { λ r. ⌜ _≡_ {A = Opening} (record { answer = r; buffer = now (buffer .exit) })
-        (opening suite (now (key .entry)) (now (nonce .entry)) (now (ad .entry)) (now (buffer .entry)) (now (tag .entry))) ⌝ }
+    ensures { λ r. ⌜ OpenAllows suite (now (key .entry)) (now (nonce .entry)) (now (ad .entry)) (now (buffer .entry)) (now (tag .entry))
+        (record { answer = r; buffer = now (buffer .exit) }) ⌝ }
 {
     let number = suites::refusal(suite, key.len(), nonce.len(), ad.len(), buffer.len());
     if number != 0 {
@@ -118,8 +118,8 @@ pub extern "C" fn deoxys_seal(
     ad: &[u8],
     buffer: &mut [u8],
 ) -> Sealed
-    ensures { λ r. ⌜ _≡_ {A = Sealing} (record { answer = r; buffer = now (buffer .exit) })
-        (sealing suite (now (key .entry)) (now (nonce .entry)) (now (ad .entry)) (now (buffer .entry))) ⌝ }
+    ensures { λ r. ⌜ SealAllows suite (now (key .entry)) (now (nonce .entry)) (now (ad .entry)) (now (buffer .entry))
+        (record { answer = r; buffer = now (buffer .exit) }) ⌝ }
 {
     seal(suite, key, nonce, ad, buffer)
 }
@@ -133,8 +133,8 @@ pub extern "C" fn deoxys_open(
     buffer: &mut [u8],
     tag: &[u8],
 ) -> Opened
-    ensures { λ r. ⌜ _≡_ {A = Opening} (record { answer = r; buffer = now (buffer .exit) })
-        (opening suite (now (key .entry)) (now (nonce .entry)) (now (ad .entry)) (now (buffer .entry)) (now (tag .entry))) ⌝ }
+    ensures { λ r. ⌜ OpenAllows suite (now (key .entry)) (now (nonce .entry)) (now (ad .entry)) (now (buffer .entry)) (now (tag .entry))
+        (record { answer = r; buffer = now (buffer .exit) }) ⌝ }
 {
     open(suite, key, nonce, ad, buffer, tag)
 }

@@ -16,15 +16,16 @@ messageRows call k nonce (suc n) i s = call (nonceTweak 0 nonce i) (take 16 s) �
 
 -- the text that the rows make: what each of n rows gave, and the partial block XORed with what its row gave
 unfoldable pub textOf : ℕ → List Row → List ℕ → List ℕ
-textOf n [] s = s
+textOf n [] s = []
 textOf zero (r ∷ rows) s = s ⊕ r .to
 textOf (suc n) (r ∷ rows) s = r .to ++ textOf n rows (drop 16 s)
 
--- XOR of n full blocks from number i on and the padded partial one
+-- a sum, and the padded partial block where there is one
 abbrev pub padIn : List ℕ → List ℕ → List ℕ
 padIn sum [] = sum
 padIn sum (x ∷ s) = sum ⊕ padded (x ∷ s)
 
+-- XOR of n full blocks from number i on and the padded partial one
 unfoldable pub checksumOf : List ℕ → List ℕ → ℕ → ℕ → List ℕ
 checksumOf s sum zero i = padIn sum (drop (16 * i) s)
 checksumOf s sum (suc n) i = checksumOf s (sum ⊕ blockAt s i) n (i + 1)

@@ -3,7 +3,7 @@
 use mathlib.Core.List.{List, [], _∷_}
 use Prim.Native.Nat.{ℕ, zero, suc, _+_, _*_, _/_}
 use lib.ListN.{length, drop}
-use Rattle.octets.specs.Octets.{_⊕_, blockAt, padded}
+use Rattle.octets.specs.Octets.{_⊕_, blocksOf, blockAt, padded}
 use Rattle.deoxys_bc.specs.Cipher.{encipher, decipher}
 use Rattle.deoxys_bc.specs.declared.Subkeys.{Subkeys}
 use Rattle.modes.specs.Tweaks.{numbered}
@@ -26,9 +26,8 @@ pub record Outcome : Type 0 where
   pub tag : List ℕ
   pub rows : List Row
 
--- the number of blocks of a text, a partial one counted
 abbrev pub blocks : List ℕ → ℕ
-blocks s = (length s + 15) / 16
+blocks s = blocksOf (length s)
 
 -- the row of a partial block, where there is one
 abbrev pub partialRow : (List ℕ → Row) → List ℕ → List Row

@@ -1,4 +1,4 @@
-// Deoxys-I.
+// Deoxys-I: the crate's `DeoxysI` in `src/modes.rs`.
 ghost use mathlib.Core.Path.{_≡_};
 ghost use mathlib.Core.List.{_++_};
 ghost use Prim.Native.Nat.{_+_, _*_, _/_, _%_, _≤_, _<_, _^_};

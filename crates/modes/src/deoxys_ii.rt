@@ -1,9 +1,8 @@
-// Deoxys-II.
+// Deoxys-II: the crate's `DeoxysII` in `src/modes.rs`.
 ghost use mathlib.Core.Path.{_≡_};
 ghost use mathlib.Core.List.{_∷_};
 ghost use Prim.Native.Nat.{_+_, _/_, _≤_, _<_, _^_};
 ghost use lib.ListN.{length};
-ghost use Rattle.octets.specs.Octets.{_⊕_};
 ghost use Rattle.deoxys_bc.specs.Cipher.{encipher};
 ghost use Rattle.modes.specs.Tweaks.{keystreamTweak};
 ghost use Rattle.modes.specs.Rows.{absorbed};
@@ -12,6 +11,7 @@ ghost use Rattle.modes.specs.DeoxysII.{messageRows, keystreamRows, crypt
 use crate::Tagged;
 use crate::Tally;
 use crate::tweaks;
+use deoxys_bc::Called;
 use deoxys_bc::Count;
 use deoxys_bc::Subkeys;
 
@@ -48,24 +48,18 @@ fn tag(k: Subkeys, nonce: &[u8], tally: Tally) -> Tagged
     Tagged { tag, count: raised }
 }
 
-// Keystream block j is XORed into a part no longer than a block: the crate's `encrypt_decrypt_block`.
-fn crypt_block(
+// Keystream block j; the caller XORs it in.
+fn encrypt_decrypt_block(
     k: Subkeys,
     tag: [u8; 16],
     block: [u8; 16],
     j: usize,
-    part: &mut [u8],
     count: Count,
-) -> Count
-    requires { ⌜ (k .rounds ≤ 16) × (length (now part) ≤ 16) × (count .rows + 1 < 2 ^ 64) ⌝ }
-    ensures { λ r. ⌜ r ≡ record { rows = count .rows + 1 } ⌝ }
-    ensures { λ r. ⌜ now (part .exit) ≡ now (part .entry) ⊕ encipher k (keystreamTweak tag j) block ⌝ }
-    ensures { λ r. ⌜ length (encipher k (keystreamTweak tag j) block) ≡ 16 ⌝ }
+) -> Called
+    requires { ⌜ (k .rounds ≤ 16) × (count .rows + 1 < 2 ^ 64) ⌝ }
+    ensures { λ r. ⌜ r ≡ record { block = encipher k (keystreamTweak tag j) block; count = record { rows = count .rows + 1 } } ⌝ }
 {
-    let called = deoxys_bc::encipher(k, tweaks::keystream_tweak(tag, j), block, count);
-    let given = called.block;
-    octets::xor_into(part, given);
-    called.count
+    deoxys_bc::encipher(k, tweaks::keystream_tweak(tag, j), block, count)
 }
 
 // The message in place, each way, with the keystream of a tag. No call is made for an empty part.
@@ -86,11 +80,17 @@ fn encrypt_decrypt_message(
     for j in 0..n {
         let at = 16 * j;
         let end = at + 16;
-        running = crypt_block(k, tag, block, j, &mut buffer[at..end], running);
+        let called = encrypt_decrypt_block(k, tag, block, j, running);
+        let given = called.block;
+        octets::xor_into(&mut buffer[at..end], given);
+        running = called.count;
     }
     let at = 16 * n;
     if at < buffer.len() {
-        return crypt_block(k, tag, block, n, &mut buffer[at..], running);
+        let called = encrypt_decrypt_block(k, tag, block, n, running);
+        let given = called.block;
+        octets::xor_into(&mut buffer[at..], given);
+        return called.count;
     }
     running
 }

@@ -1,4 +1,4 @@
-// The tweaks of both modes.
+// The tweaks of both modes, which the crate's `src/modes.rs` makes in place.
 ghost use mathlib.Core.Path.{_≡_};
 ghost use mathlib.Core.List.{_∷_};
 ghost use Prim.Native.Nat.{_<_};

@@ -47,6 +47,10 @@ eachByte f s = table (λ i. f (getD s i 0)) 16
 unfoldable pub zeroBlock : List ℕ
 zeroBlock = replicate 16 0
 
+-- the number of blocks of so many bytes, a partial one counted
+abbrev pub blocksOf : ℕ → ℕ
+blocksOf bytes = (bytes + 15) / 16
+
 -- block i of a text, counted from zero
 abbrev pub blockAt : List ℕ → ℕ → List ℕ
 blockAt s i = take 16 (drop (16 * i) s)

@@ -1,4 +1,4 @@
--- The proofs of the statements of specs/Statements, in their order.
+-- The proofs of the statements of specs/Statements.
 -- Assumes nothing.
 use mathlib.Core.Path.{_≡_, refl, sym, ap, _∙_, subst}
 use mathlib.Core.List.{List}
@@ -8,12 +8,10 @@ use lib.ListN.{length, replicate}
 use Rattle.octets.specs.Octets.{Bytes, Block, same}
 use Rattle.octets.proofs.Sameness.{same-refl, same-eq}
 use Rattle.deoxys.specs.Suites.{refusal}
-use Rattle.deoxys.specs.Entry.{Sealing, Opening, sealed, opened}
+use Rattle.deoxys.specs.Entry.{Sealing, Opening, sealed, opened, OpenAllows}
 use Rattle.deoxys.proofs.Refusals.{good}
 use Rattle.deoxys.proofs.Answers.{seal-done, open-done}
 use Rattle.promises.specs.Statements.{
-  SealAllows,
-  OpenAllows,
   Given,
   Seals,
   Source,
@@ -22,7 +20,6 @@ use Rattle.promises.specs.Statements.{
   Only-one,
   Keys-alike,
   Refused-alike,
-  Returned,
   Round-trip,
   rowsFor,
   Rows-counted-sealing,
@@ -97,7 +94,7 @@ module _ (suite : ℕ) (key nonce ad cipher tag : List ℕ) (outcome : Opening) 
     where
       by : OpenView suite key nonce ad cipher tag → Accepted
       by (OpenView.refused h e) = absurd (h (sym (numbers (o ∙ e)) ∙ z))
-      by (OpenView.short h l e) = let f : _≡_ {A = ℕ} 6 0 = sym (numbers (o ∙ e)) ∙ z in absurd (omega arith)
+      by (OpenView.wrong-length h l e) = let f : _≡_ {A = ℕ} 6 0 = sym (numbers (o ∙ e)) ∙ z in absurd (omega arith)
       by (OpenView.accepted h l s e) = record { allowed = h; tag-length = l; right = same-eq tag _ s; is = o ∙ e }
       by (OpenView.wrong h l s e) = let f : _≡_ {A = ℕ} 7 0 = sym (numbers (o ∙ e)) ∙ z in absurd (omega arith)
 
@@ -118,7 +115,7 @@ module _ (suite : ℕ) (key nonce ad cipher tag : List ℕ) (outcome : Opening) 
           let f = sym (numbers (o ∙ e)) ∙ z in
           let small = refusal-small suite (length key) (length nonce) (length ad) (length cipher) in
           absurd (omega arith)
-      by (OpenView.short h l e) = let f : _≡_ {A = ℕ} 6 7 = sym (numbers (o ∙ e)) ∙ z in absurd (omega arith)
+      by (OpenView.wrong-length h l e) = let f : _≡_ {A = ℕ} 6 7 = sym (numbers (o ∙ e)) ∙ z in absurd (omega arith)
       by (OpenView.accepted h l s e) = let f : _≡_ {A = ℕ} 0 7 = sym (numbers (o ∙ e)) ∙ z in absurd (omega arith)
       by (OpenView.wrong h l s e) = record { allowed = h; tag-length = l; is = o ∙ e }
 
@@ -186,16 +183,16 @@ keys-alike suite key key′ nonce ad cipher tag outcome outcome′ given given�
 
     by : OpenView suite key nonce ad cipher tag → OpenView suite key′ nonce ad cipher tag → outcome ≡ outcome′
     by (OpenView.refused h e) (OpenView.refused h′ e′) = o ∙ e ∙ rw numbers-alike (sym (o′ ∙ e′))
-    by (OpenView.refused h e) (OpenView.short h′ l′ e′) = absurd (h (numbers-alike ∙ h′))
+    by (OpenView.refused h e) (OpenView.wrong-length h′ l′ e′) = absurd (h (numbers-alike ∙ h′))
     by (OpenView.refused h e) (OpenView.accepted h′ l′ s′ e′) = absurd (h (numbers-alike ∙ h′))
     by (OpenView.refused h e) (OpenView.wrong h′ l′ s′ e′) = absurd (h (numbers-alike ∙ h′))
-    by (OpenView.short h l e) (OpenView.refused h′ e′) = absurd (h′ (sym numbers-alike ∙ h))
-    by (OpenView.short h l e) (OpenView.short h′ l′ e′) = o ∙ e ∙ sym (o′ ∙ e′)
-    by (OpenView.short h l e) (OpenView.accepted h′ l′ s′ e′) = absurd (l l′)
-    by (OpenView.short h l e) (OpenView.wrong h′ l′ s′ e′) = absurd (l l′)
+    by (OpenView.wrong-length h l e) (OpenView.refused h′ e′) = absurd (h′ (sym numbers-alike ∙ h))
+    by (OpenView.wrong-length h l e) (OpenView.wrong-length h′ l′ e′) = o ∙ e ∙ sym (o′ ∙ e′)
+    by (OpenView.wrong-length h l e) (OpenView.accepted h′ l′ s′ e′) = absurd (l l′)
+    by (OpenView.wrong-length h l e) (OpenView.wrong h′ l′ s′ e′) = absurd (l l′)
     by (OpenView.accepted h l s e) v = absurd (never (numbers (o ∙ e)))
     by (OpenView.wrong h l s e) (OpenView.refused h′ e′) = absurd (h′ (sym numbers-alike ∙ h))
-    by (OpenView.wrong h l s e) (OpenView.short h′ l′ e′) = absurd (l′ l)
+    by (OpenView.wrong h l s e) (OpenView.wrong-length h′ l′ e′) = absurd (l′ l)
     by (OpenView.wrong h l s e) (OpenView.accepted h′ l′ s′ e′) = absurd (never′ (numbers (o′ ∙ e′)))
     by (OpenView.wrong h l s e) (OpenView.wrong h′ l′ s′ e′) =
         refused-alike suite key key′ nonce nonce ad ad cipher cipher tag tag outcome outcome′ given given′ pc pc pt pt refl refl o o′

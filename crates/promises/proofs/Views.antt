@@ -50,7 +50,7 @@ module _ (suite : ℕ) (key nonce ad text : List ℕ) where
       refused : (number ≡ 0 → ⊥)
           → opening suite key nonce ad text tag ≡ record { answer = record { number = number; rows = 0 }; buffer = text }
           → OpenView
-      short : number ≡ 0 → (length tag ≡ 16 → ⊥)
+      wrong-length : number ≡ 0 → (length tag ≡ 16 → ⊥)
           → opening suite key nonce ad text tag ≡ record { answer = record { number = 6; rows = 0 }; buffer = text }
           → OpenView
       accepted : number ≡ 0 → length tag ≡ 16 → same tag (opened suite key nonce ad text tag .tag) ≡ true
@@ -75,7 +75,7 @@ module _ (suite : ℕ) (key nonce ad text : List ℕ) where
 
         lengths : number ≡ 0 → Decided (length tag) 16 → OpenView
         lengths e (equal l) = judged e l (same tag (opened suite key nonce ad text tag .tag)) refl
-        lengths e (other l) = short e l (sym (open-tag-length suite key nonce ad text tag e l))
+        lengths e (other l) = wrong-length e l (sym (open-tag-length suite key nonce ad text tag e l))
 
         by : Decided number 0 → OpenView
         by (equal e) = lengths e (decided (length tag) 16)

@@ -1,21 +1,14 @@
--- What sealing and opening promise: demand 3 of the mission, stated over the definition (crates/deoxys/specs/Entry) and for every outcome
--- that the contracts of `seal` and `open` allow. An outcome is the answer and the message buffer at the end. The proofs are in proofs/.
+-- What sealing and opening promise, for every outcome that the contracts of `seal` and `open` allow: `SealAllows` and `OpenAllows` are those
+-- contracts (crates/deoxys/specs/Entry). An outcome is the answer and the message buffer at the end. The proofs are in proofs/.
 -- Assumes nothing.
 use mathlib.Core.Path.{_≡_}
 use mathlib.Core.Logic.{_↔_}
 use mathlib.Core.List.{List}
-use Prim.Native.Nat.{ℕ, _+_, _*_, _/_}
+use Prim.Native.Nat.{ℕ, _+_, _*_}
 use lib.ListN.{length}
-use Rattle.octets.specs.Octets.{Bytes, pick}
+use Rattle.octets.specs.Octets.{Bytes, pick, blocksOf}
 use Rattle.deoxys.specs.Suites.{isDeoxysI}
-use Rattle.deoxys.specs.Entry.{Sealing, Opening, sealed, opened, sealing, opening}
-
--- the contracts of `seal` and `open`: what they say of an outcome
-abbrev pub SealAllows : ℕ → List ℕ → List ℕ → List ℕ → List ℕ → Sealing → Type 0
-SealAllows suite key nonce ad message outcome = outcome ≡ sealing suite key nonce ad message
-
-abbrev pub OpenAllows : ℕ → List ℕ → List ℕ → List ℕ → List ℕ → List ℕ → Opening → Type 0
-OpenAllows suite key nonce ad cipher tag outcome = outcome ≡ opening suite key nonce ad cipher tag
+use Rattle.deoxys.specs.Entry.{Sealing, Opening, sealed, opened, sealing, SealAllows, OpenAllows}
 
 -- the inputs that both sides share are bytes, of any length
 pub record Given (key nonce ad : List ℕ) : Type 0 where
@@ -86,7 +79,7 @@ Round-trip = (suite : ℕ) (key nonce ad message : List ℕ) (s : Sealing) (o : 
 
 -- The rows from the lengths alone: a + m + 1 for Deoxys-I, a + 2m + 1 for Deoxys-II, with a and m the numbers of blocks.
 abbrev pub rowsFor : ℕ → ℕ → ℕ → ℕ
-rowsFor suite ad text = pick (isDeoxysI suite) ((ad + 15) / 16 + (text + 15) / 16 + 1) ((ad + 15) / 16 + 2 * ((text + 15) / 16) + 1)
+rowsFor suite ad text = pick (isDeoxysI suite) (blocksOf ad + blocksOf text + 1) (blocksOf ad + 2 * blocksOf text + 1)
 
 abbrev pub Rows-counted-sealing : Type 0
 Rows-counted-sealing = (suite : ℕ) (key nonce ad message : List ℕ) (outcome : Sealing)

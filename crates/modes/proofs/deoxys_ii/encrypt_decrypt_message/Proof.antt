@@ -1,13 +1,14 @@
--- `modes::deoxys_ii::encrypt_decrypt_message` meets its contract: what is still to do of the buffer, from where the loop
--- stands, gives what there was to do at first.
+-- `modes::deoxys_ii::encrypt_decrypt_message` meets its contract: what is still to do of the buffer, from where the loop stands,
+-- gives what there was to do at first.
 -- Assumes nothing.
-use mathlib.Core.Path.{_≡_, refl}
+use mathlib.Core.Path.{_≡_, refl, ap}
 use Prim.Native.Nat.{_+_, _-_, _/_, _≤_}
 use native.Mathlib.Omega.{arith}
 use lib.ListN.{length}
 use borrow.Author.Needs.{needs}
 use Rattle.octets.specs.Octets.{_⊕_}
 use Rattle.octets.proofs.Parts.{rest-is, rest-put}
+use Rattle.deoxys_bc.specs.declared.Called.{Called}
 use Rattle.modes.specs.Rows.{blocks}
 use Rattle.modes.specs.DeoxysII.{keystreamFrom, given}
 use Rattle.modes.proofs.Counts.{counted}
@@ -36,17 +37,20 @@ mul-at c = search needs
 add-end : tie.Need-add-end Inv-loop μ-loop
 add-end c = search needs
 
-sub-crypt-block : tie.Need-sub-crypt-block Inv-loop μ-loop
-sub-crypt-block c = search needs
+encrypt-decrypt-block-requires : tie.Need-encrypt-decrypt-block-requires Inv-loop μ-loop
+encrypt-decrypt-block-requires c κs = search needs
 
-part-crypt-block-start : tie.Need-part-crypt-block-start Inv-loop μ-loop
-part-crypt-block-start c = search needs
+sub-xor-into : tie.Need-sub-xor-into Inv-loop μ-loop
+sub-xor-into c = search needs
 
-part-crypt-block-end : tie.Need-part-crypt-block-end Inv-loop μ-loop
-part-crypt-block-end c = search needs
+part-xor-into-start : tie.Need-part-xor-into-start Inv-loop μ-loop
+part-xor-into-start c = search needs
 
-crypt-block-requires : tie.Need-crypt-block-requires Inv-loop μ-loop
-crypt-block-requires c κs = search needs
+part-xor-into-end : tie.Need-part-xor-into-end Inv-loop μ-loop
+part-xor-into-end c = search needs
+
+xor-into-requires : tie.Need-xor-into-requires Inv-loop μ-loop
+xor-into-requires c κs = search needs
 
 add-j : tie.Need-add-j Inv-loop μ-loop
 add-j c = search needs
@@ -55,39 +59,48 @@ loop-less : tie.Need-loop-less Inv-loop μ-loop
 loop-less c = search needs
 
 loop-again : tie.Need-loop-again Inv-loop μ-loop
-loop-again c = let l = c .before .before .before .before .before .loop in
-    let w = rw (c .before .before .before .before .before .before .prefixed .ensures) at (c .before .before .crypt-block .ensures .1 .0) in
-    let size = rw (c .before .before .before .before .before .before .prefixed .ensures) at (c .before .before .crypt-block .ensures .1 .1) in
-    let t = stream-turn _ _ _ _ _ _ _ _ _ (l .inv .0) _ (omega arith) (omega arith) size w in
-    rw (c .before .before .crypt-block .ensures .0) (t, search needs, omega arith, omega arith)
+loop-again c =
+    let called = c .before .before .before .before .before .before in
+    let l = called .before .before .loop in
+    let made = rw (called .before .before .before .prefixed .ensures) at (called .encrypt-decrypt-block .ensures) in
+    let block = ap (λ (r : Called). r .block) made in
+    let size : length (called .encrypt-decrypt-block .result .block) ≡ 16 = search needs in
+    let written = rw block at (c .before .before .before .xor-into .ensures) in
+    let t = stream-turn _ _ _ _ _ _ _ _ _ (l .inv .0) _ (omega arith) (omega arith) (rw block at size) written in
+    rw made (t, search needs, omega arith, omega arith)
 
 mul-at-2 : tie.Need-mul-at-2 Inv-loop μ-loop
 mul-at-2 c = search needs
 
-sub-crypt-block-2 : tie.Need-sub-crypt-block-2 Inv-loop μ-loop
-sub-crypt-block-2 c = search needs
+encrypt-decrypt-block-requires-2 : tie.Need-encrypt-decrypt-block-requires-2 Inv-loop μ-loop
+encrypt-decrypt-block-requires-2 c κs = search needs
 
-part-crypt-block-start-2 : tie.Need-part-crypt-block-start-2 Inv-loop μ-loop
-part-crypt-block-start-2 c = search needs
+sub-xor-into-2 : tie.Need-sub-xor-into-2 Inv-loop μ-loop
+sub-xor-into-2 c = search needs
 
-part-crypt-block-end-2 : tie.Need-part-crypt-block-end-2 Inv-loop μ-loop
-part-crypt-block-end-2 c = search needs
+part-xor-into-start-2 : tie.Need-part-xor-into-start-2 Inv-loop μ-loop
+part-xor-into-start-2 c = search needs
 
-crypt-block-requires-2 : tie.Need-crypt-block-requires-2 Inv-loop μ-loop
-crypt-block-requires-2 c κs = search needs
+part-xor-into-end-2 : tie.Need-part-xor-into-end-2 Inv-loop μ-loop
+part-xor-into-end-2 c = search needs
+
+xor-into-requires-2 : tie.Need-xor-into-requires-2 Inv-loop μ-loop
+xor-into-requires-2 c κs = search needs
 
 same-length : tie.Need-same-length Inv-loop μ-loop
 same-length c = search needs
 
 returns : tie.Need-returns Inv-loop μ-loop
-returns c = let l = c .before .before .before .before .before .before .loop in
-    let e : l .j ≡ length (c .before .before .before .before .before .before .before .before .before .before .args .buffer .now) / 16 = omega arith in
+returns c =
+    let called = c .before .before .before .before .before .before in
+    let l = called .before .before .before .loop in
+    let e : l .j ≡ length (called .before .before .before .before .before .before .before .args .buffer .now) / 16 = omega arith in
     let t = stream-part _ _ _ _ _ _ _ _ _ (l .inv .0) (omega arith) in
     rw (
       rest-put,
-      c .before .before .crypt-block2 .ensures .1 .0,
-      c .before .before .crypt-block2 .ensures .0,
-      c .before .before .before .before .before .before .before .prefixed .ensures,
+      c .before .before .before .xor-into2 .ensures,
+      called .encrypt-decrypt-block2 .ensures,
+      called .before .before .before .before .prefixed .ensures,
       rest-is,
       ← e,
     )
@@ -97,7 +110,8 @@ same-length-2 : tie.Need-same-length-2 Inv-loop μ-loop
 same-length-2 c = search needs
 
 returns-2 : tie.Need-returns-2 Inv-loop μ-loop
-returns-2 c = let l = c .before .before .loop in
+returns-2 c =
+    let l = c .before .before .loop in
     let t = stream-none _ _ _ _ _ _ _ _ _ (l .inv .0) (omega arith) (omega arith) in
     (counted (t .0), t .1)
 
@@ -111,18 +125,20 @@ encrypt-decrypt-message-spec =
     loop-holds
     mul-at
     add-end
-    sub-crypt-block
-    part-crypt-block-start
-    part-crypt-block-end
-    crypt-block-requires
+    encrypt-decrypt-block-requires
+    sub-xor-into
+    part-xor-into-start
+    part-xor-into-end
+    xor-into-requires
     add-j
     loop-less
     loop-again
     mul-at-2
-    sub-crypt-block-2
-    part-crypt-block-start-2
-    part-crypt-block-end-2
-    crypt-block-requires-2
+    encrypt-decrypt-block-requires-2
+    sub-xor-into-2
+    part-xor-into-start-2
+    part-xor-into-end-2
+    xor-into-requires-2
     same-length
     returns
     same-length-2
