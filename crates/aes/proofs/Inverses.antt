@@ -1,11 +1,13 @@
 -- The inverse of every byte, by the one slow test of this crate: each product of `power x 254` is computed once, here, and the other
 -- tests read the list.
 -- Assumes nothing.
-use mathlib.Core.Path.{_≡_}
+use mathlib.Core.Path.{_≡_, ap, _∙_}
 use mathlib.Core.List.{List, [], _∷_}
 use Prim.Native.Nat.{ℕ, _<_}
-use lib.Dec.{ltb, ltb→lt}
+use lib.Dec.{eqb, ltb, ltb→lt}
 use lib.ListN.{getD}
+use borrow.Author.Tests.{ne-eqb}
+use Rattle.octets.specs.Octets.{pick}
 use Rattle.octets.proofs.Tables.{below, agreed}
 use Rattle.aes.specs.Field.{double, times, power, inverse}
 
@@ -35,3 +37,11 @@ inverse-at = agreed inverse (λ x. getD inverses x 0) 256 tt
 pub inverses-lt : (x : ℕ) → x < 256 → getD inverses x 0 < 256
 unfolding inverses
 inverses-lt x h = ltb→lt (getD inverses x 0) 256 (below (λ y. ltb (getD inverses y 0) 256) 256 tt x h)
+
+-- the power is the multiplicative inverse
+pub times-inverse : (x : ℕ) → (x ≡ 0 → ⊥) → x < 256 → times x (inverse x) ≡ 1
+unfolding inverses times double
+times-inverse x n h =
+    ap (times x) (inverse-at x h)
+    ∙ agreed (λ y. times y (getD inverses y 0)) (λ y. pick (eqb y 0) 0 1) 256 tt x h
+    ∙ rw (ne-eqb x 0 n)

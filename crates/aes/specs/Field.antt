@@ -5,7 +5,7 @@ use lib.Bits.{bitXor}
 use lib.Dec.{eqb}
 use Rattle.octets.specs.Octets.{pick}
 
--- 4.2.1 xtimes: the bits move up by one place, and the bit that falls out counts as 0x1B
+-- 4.2.1 xtime: the bits move up by one place, and the bit that falls out counts as 0x1B
 unfoldable pub double : ℕ → ℕ
 double x = bitXor (x / 128 % 2 * 0x1b) (x % 128 * 2)
 

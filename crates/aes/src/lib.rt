@@ -11,7 +11,7 @@ ghost use Rattle.aes.specs.Round.{byteAt, shiftRows, invShiftRows, mixBy
 pub mod inv_sbox;
 pub mod sbox;
 
-// xtimes: the bits move up by one place, and the bit that falls out counts as 0x1B.
+// xtime: the bits move up by one place, and the bit that falls out counts as 0x1B.
 pub fn double(x: u8) -> u8
     ensures { λ r. ⌜ r ≡ double x ⌝ }
 {

@@ -9,7 +9,7 @@ use native.Mathlib.Omega.{arith}
 use lib.Dec.{eqb}
 use borrow.Author.Tests.{eq-eqb, ne-eqb, lt-ltb, le-ltb, le-leb, lt-leb, eqb-true, ltb-false, not-false}
 use Rattle.octets.specs.Octets.{pick}
-use Rattle.deoxys.specs.Suites.{isSuite, keyLength, nonceLength, refusal}
+use Rattle.deoxys.specs.Suites.{keyLength, nonceLength, refusal}
 
 -- ---- what the code's tests show
 
@@ -57,7 +57,6 @@ module _ (suite key nonce ad text : ℕ) where
 -- ---- what holds where nothing is refused
 
 pub record Good (suite key nonce ad text : ℕ) : Type 0 where
-  pub known : isSuite suite ≡ true
   pub key-fits : key ≡ keyLength suite
   pub nonce-fits : nonce ≡ nonceLength suite
   pub ad-fits : ad ≤ 1048576
@@ -76,7 +75,6 @@ good suite key nonce ad text e =
     let p₄ = passed _ _ _ (p₃ .1) in
     let p₅ = passed _ _ _ (p₄ .1) in
     record {
-      known = not-false _ (p₁ .0);
       key-fits = eqb-true _ _ (not-false _ (p₂ .0));
       nonce-fits = eqb-true _ _ (not-false _ (p₃ .0));
       ad-fits = ltb-false _ _ (p₄ .0);

@@ -16,7 +16,7 @@ use Rattle.octets.proofs.Tables.{below, agreed, table-block, each-block}
 use Rattle.deoxys_bc.specs.Tweakey.{places, h, lfsr2, lfsr3, repeated, tk2, tk3, tweakAfter, constantBlock, keyPart, roundsOf, joined, flat, expanded}
 use Rattle.deoxys_bc.specs.declared.Subkeys.{Subkeys}
 
--- ---- the LFSRs, by tests over every byte
+-- ---- the LFSRs, by tests over every byte: document 01, "each undoes the other"
 
 pub lfsr3-lfsr2 : (x : ℕ) → x < 256 → lfsr3 (lfsr2 x) ≡ x
 unfolding lfsr2 lfsr3

@@ -3,7 +3,7 @@
 use mathlib.Core.Path.{_≡_, refl, sym, ap, _∙_}
 use mathlib.Core.List.{List, [], _∷_}
 use Prim.Native.Nat.{ℕ, zero, suc, _+_, _*_, _/_, _%_, _<_}
-use native.Mathlib.Nat.{not-suc-le-zero, mod-lt, zero-lt-suc, div-add-mod'}
+use native.Mathlib.Nat.{not-suc-le-zero, div-add-mod'}
 use lib.Bits.{bitOr}
 use lib.ListN.{length, getD, set}
 use Rattle.octets.specs.Octets.{table, bigEndian}
@@ -18,10 +18,6 @@ leftOver kind nonce (suc j) = getD nonce j 0 % 16
 
 abbrev pub packed : ℕ → List ℕ → ℕ → ℕ
 packed kind nonce j = leftOver kind nonce j * 16 + getD nonce j 0 / 16
-
-pub leftOver-lt : (kind : ℕ) (nonce : List ℕ) (j : ℕ) → kind < 16 → leftOver kind nonce j < 16
-leftOver-lt kind nonce zero h = h
-leftOver-lt kind nonce (suc j) h = mod-lt (getD nonce j 0) (zero-lt-suc 15)
 
 pub packed-is : (kind i : ℕ) (nonce : List ℕ) → length nonce ≡ 8
     → set (upto (table (packed kind nonce) 8) (numbered 0 i) 8) 8

@@ -51,7 +51,7 @@ table-eq f g n h = is-table g n (table f n) (table-length f n) (λ k b. table-at
 pub spelt : (s : List ℕ) {n : ℕ} → length s ≡ n → table (λ i. getD s i 0) n ≡ s
 spelt s {n} e = sym (is-table (λ i. getD s i 0) n s e (λ k h. refl))
 
-lt-or-ge : (i n : ℕ) → (i < n) ⊎ (n ≤ i)
+pub lt-or-ge : (i n : ℕ) → (i < n) ⊎ (n ≤ i)
 lt-or-ge i zero = inr zero-le
 lt-or-ge zero (suc n) = inl (suc-le-suc zero-le)
 lt-or-ge (suc i) (suc n) = ⊎-elim (λ h. inl (suc-le-suc h)) (λ h. inr (suc-le-suc h)) (lt-or-ge i n)

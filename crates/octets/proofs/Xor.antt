@@ -63,20 +63,6 @@ xor-back a b = xor-assoc a b b ∙ ap (bitXor a) (xor-self b) ∙ xor-zero-r a
 pub cons-eq : {x y : ℕ} {s t : List ℕ} → x ≡ y → s ≡ t → x ∷ s ≡ y ∷ t
 cons-eq p q = ap₂ (λ (z : ℕ) (u : List ℕ). z ∷ u) p q
 
-pub ⊕-comm : (s t : List ℕ) → s ⊕ t ≡ t ⊕ s
-unfolding _⊕_
-⊕-comm [] [] = refl
-⊕-comm [] (y ∷ t) = refl
-⊕-comm (x ∷ s) [] = refl
-⊕-comm (x ∷ s) (y ∷ t) = cons-eq (xor-comm x y) (⊕-comm s t)
-
-pub ⊕-assoc : (s t u : List ℕ) → (s ⊕ t) ⊕ u ≡ s ⊕ (t ⊕ u)
-unfolding _⊕_
-⊕-assoc [] t u = refl
-⊕-assoc (x ∷ s) [] u = refl
-⊕-assoc (x ∷ s) (y ∷ t) [] = refl
-⊕-assoc (x ∷ s) (y ∷ t) (z ∷ u) = cons-eq (xor-assoc x y z) (⊕-assoc s t u)
-
 pub ⊕-length : (s t : List ℕ) → length s ≤ length t → length (s ⊕ t) ≡ length s
 unfolding _⊕_
 ⊕-length [] t h = refl

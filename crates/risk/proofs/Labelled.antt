@@ -1,19 +1,21 @@
 -- The rows of a sealing are those that the labels name, in their order: each row has the tweak of its label.
 -- Assumes nothing.
-use mathlib.Core.Path.{_≡_, refl, _∙_}
-use mathlib.Core.Bool.{Bool, true, false}
+use mathlib.Core.Path.{_≡_, refl, ap, _∙_}
+use mathlib.Core.Bool.{Bool, true, false, not}
 use mathlib.Core.List.{List, [], _∷_, map, map-append}
-use Prim.Native.Nat.{ℕ, zero, suc, _+_, _-_, _*_, _/_, _≤_, _<_}
+use Prim.Native.Nat.{ℕ, zero, suc, _+_, _-_, _*_, _/_, _%_, _≤_, _<_}
 use native.Mathlib.Nat.{sub-zero}
 use native.Mathlib.Omega.{arith}
+use lib.Dec.{eqb}
 use lib.ListN.{length, drop, length-drop}
 use borrow.Author.Tests.{lt-ltb, le-ltb, le-leb, lt-leb}
+use Rattle.octets.specs.Octets.{pick, blocksOf}
 use Rattle.deoxys_bc.specs.Tweakey.{expanded}
 use Rattle.deoxys_bc.specs.declared.Subkeys.{Subkeys}
 use Rattle.modes.specs.Tweaks.{numbered, nonceTweak, keystreamTweak}
 use Rattle.modes.specs.Rows.{Row, enciphered, Outcome, partialRow, textRows, authRows}
 use Rattle.risk.specs.declared.Label.{Label}
-use Rattle.risk.specs.Labels.{blocks, blockLabels, textLabels, tagLabel, labels}
+use Rattle.risk.specs.Labels.{blockLabels, textLabels, tagLabel, labels}
 use Rattle.risk.specs.Tweaks.{tweakOf}
 use Rattle.modes.specs.DeoxysI as I
 use Rattle.modes.specs.DeoxysII as II
@@ -32,26 +34,26 @@ record Gives (f : Label → List ℕ) (kind : ℕ) (full part : ℕ → List ℕ
   partial : (i : ℕ) → f (label kind i true) ≡ part i
 
 module _ {f : Label → List ℕ} {kind : ℕ} {full part : ℕ → List ℕ} (g : Gives f kind full part) (bytes i : ℕ) where
-  turn : {rest : List (List ℕ)} → 16 * i + 16 ≤ bytes → rest ≡ map f (blockLabels kind bytes (blocks bytes - (i + 1)) (i + 1))
-      → full i ∷ rest ≡ map f (blockLabels kind bytes (blocks bytes - i) i)
+  turn : {rest : List (List ℕ)} → 16 * i + 16 ≤ bytes → rest ≡ map f (blockLabels kind bytes (blocksOf bytes - (i + 1)) (i + 1))
+      → full i ∷ rest ≡ map f (blockLabels kind bytes (blocksOf bytes - i) i)
   unfolding blockLabels
   turn h e =
-      let z : blocks bytes - i ≡ suc (blocks bytes - (i + 1)) = omega arith in
+      let z : blocksOf bytes - i ≡ suc (blocksOf bytes - (i + 1)) = omega arith in
       rw (z, e, le-ltb _ _ h, g .whole i)
 
   ending : (call : List ℕ → Row) (s : List ℕ) → ((p : List ℕ) → call p .tweak ≡ part i) → length s ≡ bytes - 16 * i → 16 * i ≤ bytes
-      → bytes < 16 * i + 16 → tweaks (partialRow call s) ≡ map f (blockLabels kind bytes (blocks bytes - i) i)
+      → bytes < 16 * i + 16 → tweaks (partialRow call s) ≡ map f (blockLabels kind bytes (blocksOf bytes - i) i)
   unfolding blockLabels
   ending call [] is e l h =
-      let z : blocks bytes - i ≡ 0 = omega arith in
+      let z : blocksOf bytes - i ≡ 0 = omega arith in
       rw z
   ending call (x ∷ s) is e l h =
-      let z : blocks bytes - i ≡ 1 = omega arith in
+      let z : blocksOf bytes - i ≡ 1 = omega arith in
       rw (z, is (x ∷ s), lt-ltb _ _ h, g .partial i)
 
 module _ {f : Label → List ℕ} {kind : ℕ} (k : Subkeys) where
   text-tweaks : (byte last : ℕ) (s : List ℕ) → Gives f kind (numbered byte) (numbered last) → (n i : ℕ) → 16 * (n + i) ≤ length s
-      → length s < 16 * (n + i) + 16 → tweaks (textRows k byte last s n i) ≡ map f (blockLabels kind (length s) (blocks (length s) - i) i)
+      → length s < 16 * (n + i) + 16 → tweaks (textRows k byte last s n i) ≡ map f (blockLabels kind (length s) (blocksOf (length s) - i) i)
   unfolding textRows
   text-tweaks byte last s g zero i l h = ending g _ i _ (drop (16 * i) s) (λ p. refl) (length-drop (16 * i) s) (omega arith) (omega arith)
   text-tweaks byte last s g (suc n) i l h = turn g _ i (omega arith) (text-tweaks byte last s g n (i + 1) (omega arith) (omega arith))
@@ -63,7 +65,7 @@ module _ {f : Label → List ℕ} {kind : ℕ} (k : Subkeys) where
 
   module _ (nonce : List ℕ) (g : Gives f kind (nonceTweak 0 nonce) (nonceTweak 4 nonce)) where
     message-tweaks : (bytes n i : ℕ) (s : List ℕ) → length s ≡ bytes - 16 * i → 16 * (n + i) ≤ bytes → bytes < 16 * (n + i) + 16
-        → tweaks (I.messageRows (enciphered k) k nonce n i s) ≡ map f (blockLabels kind bytes (blocks bytes - i) i)
+        → tweaks (I.messageRows (enciphered k) k nonce n i s) ≡ map f (blockLabels kind bytes (blocksOf bytes - i) i)
     unfolding I.messageRows
     message-tweaks bytes zero i s e l h = ending g bytes i _ s (λ p. refl) e (omega arith) (omega arith)
     message-tweaks bytes (suc n) i s e l h =
@@ -83,39 +85,43 @@ keystream-tweaks f k tag nonce g bytes (suc n) j = rw (g j _, keystream-tweaks f
 
 -- ---- a sealing
 
+tag-kind : (whole : Bool) → _≡_ {A = ℕ} (pick (not whole) 5 1) (pick whole 1 5)
+tag-kind true = refl
+tag-kind false = refl
+
 module _ (suite : ℕ) (key nonce ad message tag : List ℕ) where
   abbrev k : Subkeys
   k = expanded key
 
   unfoldable f : Label → List ℕ
-  f = tweakOf suite nonce tag (length message)
+  f = tweakOf suite nonce tag
 
   on-data : Gives f 0 (numbered 0x20) (numbered 0x60)
   unfolding f tweakOf
   on-data = record { whole = λ i. refl; partial = λ i. refl }
 
   abbrev Labelled : Outcome → Type 0
-  Labelled o = tweaks (o .rows) ≡ map (tweakOf suite nonce tag (length message)) (labels suite (length ad) (length message))
+  Labelled o = tweaks (o .rows) ≡ map (tweakOf suite nonce tag) (labels suite (length ad) (length message))
 
   module _ (h : suite ≤ 2) where
     on-message-i : Gives f 1 (nonceTweak 0 nonce) (nonceTweak 4 nonce)
     unfolding f tweakOf
     on-message-i = record { whole = λ i. rw (le-leb _ _ h); partial = λ i. rw (le-leb _ _ h) }
 
-    on-tag-i : f tagLabel ≡ I.tagRow k nonce message .tweak
+    on-tag-i : f (tagLabel suite (length message)) ≡ I.tagRow k nonce message .tweak
     unfolding f tweakOf
-    on-tag-i = rw (le-leb _ _ h)
+    on-tag-i = rw (le-leb _ _ h) (ap (λ (kind : ℕ). nonceTweak kind nonce (blocksOf (length message))) (tag-kind (eqb (length message % 16) 0)))
 
     pub labelled-i : Labelled (I.sealI k nonce ad message)
     unfolding I.sealI labels f
-    labelled-i = simp map-append (rw (le-leb _ _ h, auth-tweaks k 0x20 0x60 ad on-data, crypt-tweaks k nonce on-message-i message, on-tag-i))
+    labelled-i = simp map-append (rw (on-tag-i, le-leb _ _ h, auth-tweaks k 0x20 0x60 ad on-data, crypt-tweaks k nonce on-message-i message))
 
   module _ (h : 2 < suite) where
     on-message-ii : Gives f 1 (numbered 0x00) (numbered 0x40)
     unfolding f tweakOf
     on-message-ii = record { whole = λ i. rw (lt-leb _ _ h); partial = λ i. rw (lt-leb _ _ h) }
 
-    on-tag-ii : f tagLabel ≡ 0x10 ∷ nonce
+    on-tag-ii : f (tagLabel suite (length message)) ≡ 0x10 ∷ nonce
     unfolding f tweakOf
     on-tag-ii = rw (lt-leb _ _ h)
 
@@ -126,7 +132,7 @@ module _ (suite : ℕ) (key nonce ad message tag : List ℕ) where
     pub labelled-ii : tag ≡ II.sealII k nonce ad message .tag → Labelled (II.sealII k nonce ad message)
     unfolding II.sealII labels f
     labelled-ii e =
-        let keystream = keystream-tweaks f k tag nonce on-keystream (length message) (blocks (length message)) 0 in
+        let keystream = keystream-tweaks f k tag nonce on-keystream (length message) (blocksOf (length message)) 0 in
         let first = auth-tweaks k 0x20 0x60 ad on-data in
         let second = auth-tweaks k 0x00 0x40 message on-message-ii in
-        simp map-append (rw (lt-leb _ _ h, first, second, on-tag-ii, ← e, keystream))
+        simp map-append (rw (on-tag-ii, lt-leb _ _ h, first, second, ← e, keystream))

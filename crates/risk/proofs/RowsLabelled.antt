@@ -2,14 +2,14 @@
 -- Assumes nothing.
 use mathlib.Core.Path.{_≡_, refl, sym, ap, _∙_}
 use mathlib.Core.Bool.{Bool, true, false}
-use mathlib.Core.Logic.{_⊎_, inl, inr, ⊎-elim}
+use mathlib.Core.Logic.{_⊎_, ⊎-elim}
 use mathlib.Core.List.{List, [], _∷_, _++_, map}
-use Prim.Native.Nat.{ℕ, _≤_, _<_}
-use lib.Dec.{leb, eqb}
+use Prim.Native.Nat.{ℕ}
+use lib.Dec.{eqb}
 use lib.ListN.{length, length-map}
-use borrow.Author.Tests.{leb-true, leb-false}
+use Rattle.octets.proofs.Tables.{lt-or-ge}
 use Rattle.modes.specs.Rows.{Row}
-use Rattle.deoxys.specs.Suites.{keyLength, nonceLength, refusal}
+use Rattle.deoxys.specs.Suites.{keyLength, nonceLength}
 use Rattle.deoxys.specs.Entry.{sealed, sealing}
 use Rattle.deoxys.proofs.Answers.{sealed-i, sealed-ii}
 use Rattle.risk.specs.declared.Label.{Label}
@@ -17,23 +17,16 @@ use Rattle.risk.specs.Labels.{blockLabels, tagLabel, labels, refused, ri
 use Rattle.risk.specs.Tweaks.{tweakOf}
 use Rattle.risk.proofs.Labelled.{labelled-i, labelled-ii}
 
-sides : (a b : ℕ) → (a ≤ b) ⊎ (b < a)
-sides a b = by (leb a b) refl
-  where
-    by : (t : Bool) → leb a b ≡ t → (a ≤ b) ⊎ (b < a)
-    by true e = inl (leb-true a b e)
-    by false e = inr (leb-false a b e)
-
 module _ (suite : ℕ) (key nonce ad message : List ℕ) where
   -- row by row, in order, a sealing's tweaks are those that document 01 gives the labels
   pub rows-labelled :
       map (λ (r : Row). r .tweak) (sealed suite key nonce ad message .rows)
-      ≡ map (tweakOf suite nonce (sealed suite key nonce ad message .tag) (length message)) (labels suite (length ad) (length message))
+      ≡ map (tweakOf suite nonce (sealed suite key nonce ad message .tag)) (labels suite (length ad) (length message))
   rows-labelled =
       ⊎-elim
-      (λ h. rw (← sealed-i suite key nonce ad message h) (labelled-i suite key nonce ad message _ h))
       (λ h. rw (← sealed-ii suite key nonce ad message h) (labelled-ii suite key nonce ad message _ h refl))
-      (sides suite 2)
+      (λ h. rw (← sealed-i suite key nonce ad message h) (labelled-i suite key nonce ad message _ h))
+      (lt-or-ge 2 suite)
 
   -- so there are as many of the ones as of the others
   pub rows-counted : length (sealed suite key nonce ad message .rows) ≡ length (labels suite (length ad) (length message))
@@ -59,10 +52,6 @@ whole kind i = record { kind = kind; number = i; partial = false }
 abbrev nine : List ℕ
 nine = 0 ∷ 1 ∷ 2 ∷ 3 ∷ 4 ∷ 5 ∷ 6 ∷ 7 ∷ 8 ∷ []
 
-pub twenty : labels 3 16 144 ≡ whole 0 0 ∷ (map (whole 1) nine ++ (tagLabel ∷ map (whole 3) nine))
+pub twenty : labels 3 16 144 ≡ whole 0 0 ∷ (map (whole 1) nine ++ (tagLabel 3 144 ∷ map (whole 3) nine))
 unfolding labels blockLabels
 twenty = refl
-
-pub twenty-rows : length (riskTable 3 16 144) ≡ 20
-unfolding riskTable labels blockLabels refusal
-twenty-rows = refl

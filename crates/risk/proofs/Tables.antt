@@ -9,11 +9,11 @@ use native.Mathlib.Omega.{arith}
 use lib.ListN.{length, getD, length-append, List·getD-append}
 use lib.Seq.{getD-append-add}
 use borrow.Author.Tests.{eq-eqb, ne-eqb, le-leb, lt-leb, eqb-true}
-use Rattle.octets.specs.Octets.{pick}
+use Rattle.octets.specs.Octets.{pick, blocksOf}
 use Rattle.deoxys.specs.Suites.{isDeoxysI, keyLength, nonceLength}
 use Rattle.deoxys.proofs.Refusals.{Good, good}
 use Rattle.risk.specs.declared.Label.{Label}
-use Rattle.risk.specs.Labels.{blocks, blockLabel, blockLabels, textLabels, tagLabel, labels, refused, riskTable, noRow}
+use Rattle.risk.specs.Labels.{blockLabel, blockLabels, textLabels, tagLabel, labels, refused, riskTable, noRow}
 
 -- ---- the blocks of one text
 
@@ -23,8 +23,8 @@ module _ (kind bytes : ℕ) where
   count zero i = refl
   count (suc n) i = ap suc (count n (i + 1))
 
-  pub text-count : length (textLabels kind bytes) ≡ blocks bytes
-  text-count = count (blocks bytes) 0
+  pub text-count : length (textLabels kind bytes) ≡ blocksOf bytes
+  text-count = count (blocksOf bytes) 0
 
   place : (n i j : ℕ) → j < n → getD (blockLabels kind bytes n i) j noRow ≡ blockLabel kind bytes (i + j)
   unfolding blockLabels
@@ -34,8 +34,8 @@ module _ (kind bytes : ℕ) where
       let e : i + 1 + j ≡ i + suc j = omega arith in
       place n (i + 1) j (omega arith) ∙ ap (blockLabel kind bytes) e
 
-  pub text-place : (j : ℕ) → j < blocks bytes → getD (textLabels kind bytes) j noRow ≡ blockLabel kind bytes j
-  text-place j h = let e : 0 + j ≡ j = omega arith in place (blocks bytes) 0 j h ∙ ap (blockLabel kind bytes) e
+  pub text-place : (j : ℕ) → j < blocksOf bytes → getD (textLabels kind bytes) j noRow ≡ blockLabel kind bytes j
+  text-place j h = let e : 0 + j ≡ j = omega arith in place (blocksOf bytes) 0 j h ∙ ap (blockLabel kind bytes) e
 
 -- ---- a list after another
 
@@ -58,7 +58,7 @@ keystream-place : (b : Bool) (bytes j : ℕ) → j < length (pick b [] (textLabe
 keystream-place true bytes j h = absurd (not-suc-le-zero h)
 keystream-place false bytes j h = text-place 3 bytes j (rw (text-count 3 bytes) at h)
 
-keystream-most : (b : Bool) (bytes : ℕ) → length (pick b [] (textLabels 3 bytes)) ≤ blocks bytes
+keystream-most : (b : Bool) (bytes : ℕ) → length (pick b [] (textLabels 3 bytes)) ≤ blocksOf bytes
 keystream-most true bytes = omega arith
 keystream-most false bytes = rw (text-count 3 bytes) (omega arith)
 
@@ -67,13 +67,13 @@ module _ (suite ad message : ℕ) where
   keystream = pick (isDeoxysI suite) [] (textLabels 3 message)
 
   abbrev rest : List Label
-  rest = textLabels 1 message ++ (tagLabel ∷ keystream)
+  rest = textLabels 1 message ++ (tagLabel suite message ∷ keystream)
 
   pub table-none : (refused suite ad message ≡ 0 → ⊥) → 0 ≡ length (riskTable suite ad message)
   unfolding riskTable
   table-none h = simp (ne-eqb _ _ h)
 
-  labels-count : length (labels suite ad message) ≡ blocks ad + (blocks message + suc (length keystream))
+  labels-count : length (labels suite ad message) ≡ blocksOf ad + (blocksOf message + suc (length keystream))
   unfolding labels
   labels-count = simp (length-append, text-count)
 
@@ -82,15 +82,15 @@ module _ (suite ad message : ℕ) where
     unfolding riskTable
     is-labels = simp (eq-eqb _ _ h)
 
-    pub table-count-i : suite ≤ 2 → blocks ad + blocks message + 1 ≡ length (riskTable suite ad message)
+    pub table-count-i : suite ≤ 2 → blocksOf ad + blocksOf message + 1 ≡ length (riskTable suite ad message)
     table-count-i s =
         let k : length keystream ≡ 0 = simp (le-leb _ _ s) in
         let e = ap length is-labels ∙ labels-count in
         omega arith
 
-    pub table-count-ii : 2 < suite → blocks ad + 2 * blocks message + 1 ≡ length (riskTable suite ad message)
+    pub table-count-ii : 2 < suite → blocksOf ad + 2 * blocksOf message + 1 ≡ length (riskTable suite ad message)
     table-count-ii s =
-        let k : length keystream ≡ blocks message = simp (lt-leb _ _ s, text-count) in
+        let k : length keystream ≡ blocksOf message = simp (lt-leb _ _ s, text-count) in
         let e = ap length is-labels ∙ labels-count in
         omega arith
 
@@ -111,10 +111,10 @@ module _ (suite ad message : ℕ) where
     unfolding labels
     here = rw (is-labels not-refused)
 
-    pub row-data : i < blocks ad → blockLabel 0 ad i ≡ getD (riskTable suite ad message) i noRow
+    pub row-data : i < blocksOf ad → blockLabel 0 ad i ≡ getD (riskTable suite ad message) i noRow
     row-data l = sym (here ∙ before (textLabels 0 ad) rest i _ (text-count 0 ad) l ∙ text-place 0 ad i l)
 
-    module _ (a m : ℕ) (is-a : a ≡ blocks ad) (is-m : m ≡ blocks message) (l : a ≤ i) where
+    module _ (a m : ℕ) (is-a : a ≡ blocksOf ad) (is-m : m ≡ blocksOf message) (l : a ≤ i) where
       there : getD (riskTable suite ad message) i noRow ≡ getD rest (i - a) noRow
       there = here ∙ after (textLabels 0 ad) rest i a (text-count 0 ad ∙ sym is-a) l
 
@@ -122,14 +122,14 @@ module _ (suite ad message : ℕ) where
       row-message k = sym (there ∙ before (textLabels 1 message) _ (i - a) m (text-count 1 message ∙ sym is-m) k ∙ text-place 1 message (i - a) (omega arith))
 
       module _ (k : m ≤ i - a) where
-        last : getD (riskTable suite ad message) i noRow ≡ getD (tagLabel ∷ keystream) (i - a - m) noRow
+        last : getD (riskTable suite ad message) i noRow ≡ getD (tagLabel suite message ∷ keystream) (i - a - m) noRow
         last = there ∙ after (textLabels 1 message) _ (i - a) m (text-count 1 message ∙ sym is-m) k
 
-        pub row-tag : i - a ≡ m → tagLabel ≡ getD (riskTable suite ad message) i noRow
+        pub row-tag : i - a ≡ m → tagLabel suite message ≡ getD (riskTable suite ad message) i noRow
         row-tag e = let z : i - a - m ≡ 0 = omega arith in sym (last ∙ (rw z))
 
         pub row-keystream : (i - a ≡ m → ⊥) → blockLabel 3 message (i - a - m - 1) ≡ getD (riskTable suite ad message) i noRow
         row-keystream n =
             let z : i - a - m ≡ suc (i - a - m - 1) = omega (arith, n) in
             let f = ap length (is-labels not-refused) ∙ labels-count in
-            sym (last ∙ ap (λ (p : ℕ). getD (tagLabel ∷ keystream) p noRow) z ∙ keystream-place (isDeoxysI suite) message _ (omega arith))
+            sym (last ∙ ap (λ (p : ℕ). getD (tagLabel suite message ∷ keystream) p noRow) z ∙ keystream-place (isDeoxysI suite) message _ (omega arith))

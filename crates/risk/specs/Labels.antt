@@ -1,17 +1,13 @@
 -- The labels of a sealing's rows, from the suite and the two lengths alone: document 01, "Rows".
 -- A label's kind is 0 for data, 1 for message, 2 for the tag, 3 for keystream; 4 stands past the last row.
 -- Assumes nothing.
-use mathlib.Core.Bool.{false}
+use mathlib.Core.Bool.{false, not}
 use mathlib.Core.List.{List, [], _∷_, _++_}
-use Prim.Native.Nat.{ℕ, zero, suc, _+_, _*_, _/_}
+use Prim.Native.Nat.{ℕ, zero, suc, _+_, _*_, _%_}
 use lib.Dec.{eqb, ltb}
-use Rattle.octets.specs.Octets.{pick}
+use Rattle.octets.specs.Octets.{pick, blocksOf}
 use Rattle.deoxys.specs.Suites.{isDeoxysI, keyLength, nonceLength, refusal}
 use Rattle.risk.specs.declared.Label.{Label}
-
--- the number of blocks of so many bytes, a partial one counted
-abbrev pub blocks : ℕ → ℕ
-blocks bytes = (bytes + 15) / 16
 
 -- block i of a text of so many bytes: partial where the text ends before the block does
 abbrev pub blockLabel : ℕ → ℕ → ℕ → Label
@@ -23,15 +19,18 @@ blockLabels kind bytes zero i = []
 blockLabels kind bytes (suc n) i = blockLabel kind bytes i ∷ blockLabels kind bytes n (i + 1)
 
 abbrev pub textLabels : ℕ → ℕ → List Label
-textLabels kind bytes = blockLabels kind bytes (blocks bytes) 0
+textLabels kind bytes = blockLabels kind bytes (blocksOf bytes) 0
 
-abbrev pub tagLabel : Label
-tagLabel = record { kind = 2; number = 0; partial = false }
+-- the tag: in Deoxys-I its tweak has the number of the message's blocks, and says whether one is partial; in Deoxys-II it has neither
+abbrev pub tagLabel : ℕ → ℕ → Label
+tagLabel suite messageBytes =
+    pick (isDeoxysI suite) (record { kind = 2; number = blocksOf messageBytes; partial = not (eqb (messageBytes % 16) 0) })
+    (record { kind = 2; number = 0; partial = false })
 
 -- data, message, tag, and in Deoxys-II the keystream: a block of it for each block of the message, partial where that is
 unfoldable pub labels : ℕ → ℕ → ℕ → List Label
 labels suite adBytes messageBytes =
-    textLabels 0 adBytes ++ (textLabels 1 messageBytes ++ (tagLabel ∷ pick (isDeoxysI suite) [] (textLabels 3 messageBytes)))
+    textLabels 0 adBytes ++ (textLabels 1 messageBytes ++ (tagLabel suite messageBytes ∷ pick (isDeoxysI suite) [] (textLabels 3 messageBytes)))
 
 -- the number by which document 01 refuses such a suite and lengths, with a key and a nonce that fit, or 0
 abbrev pub refused : ℕ → ℕ → ℕ → ℕ

@@ -2,7 +2,8 @@
 ghost use mathlib.Core.Path.{_≡_};
 ghost use Prim.Native.Nat.{_+_, _*_, _<_, _≤_};
 ghost use lib.ListN.{length, getD};
-ghost use Rattle.risk.specs.Labels.{blocks, blockLabel, refused, riskTable, noRow};
+ghost use Rattle.octets.specs.Octets.{blocksOf};
+ghost use Rattle.risk.specs.Labels.{blockLabel, tagLabel, refused, riskTable, noRow};
 
 pub const DATA: u8 = 0;
 
@@ -33,7 +34,7 @@ pub fn refusal(suite: u8, ad: usize, message: usize) -> u8
 // A partial block is counted.
 fn blocks(bytes: usize) -> usize
     requires { ⌜ bytes ≤ 1048576 ⌝ }
-    ensures { λ r. ⌜ r ≡ blocks bytes ⌝ }
+    ensures { λ r. ⌜ r ≡ blocksOf bytes ⌝ }
 {
     (bytes + 15) / 16
 }
@@ -65,6 +66,25 @@ fn block_label(kind: u8, bytes: usize, i: usize) -> Label
     }
 }
 
+// The tag: in Deoxys-I its tweak numbers it and says whether the message ends in a partial block.
+fn tag_label(suite: u8, message: usize) -> Label
+    requires { ⌜ message ≤ 1048576 ⌝ }
+    ensures { λ r. ⌜ r ≡ tagLabel suite message ⌝ }
+{
+    if suite <= 2 {
+        return Label {
+            kind: TAG,
+            number: blocks(message),
+            partial: message % 16 != 0,
+        };
+    }
+    Label {
+        kind: TAG,
+        number: 0,
+        partial: false,
+    }
+}
+
 // Row i of the table, counted from zero. Past its end stands NO_ROW.
 pub fn row(suite: u8, ad: usize, message: usize, i: usize) -> Label
     ensures { λ r. ⌜ r ≡ getD (riskTable suite ad message) i noRow ⌝ }
@@ -86,11 +106,7 @@ pub fn row(suite: u8, ad: usize, message: usize, i: usize) -> Label
         return block_label(MESSAGE, message, j);
     }
     if j == m {
-        return Label {
-            kind: TAG,
-            number: 0,
-            partial: false,
-        };
+        return tag_label(suite, message);
     }
     block_label(KEYSTREAM, message, j - m - 1)
 }

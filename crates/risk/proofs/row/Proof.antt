@@ -48,16 +48,23 @@ returns-3 c =
     (c .before .before .before .if2 .left)
     (c .before .if3 .taken)
 
+tag-label-requires : tie.Need-tag-label-requires
+tag-label-requires c κs =
+    fits _ _ _ _ (rw (c .before .before .before .before .before .before .rows .ensures) at (c .before .before .before .before .before .if1 .left))
+    .text-fits
+
 returns-4 : tie.Need-returns-4
 returns-4 c =
-    row-tag _ _ _ _
-    (rw (c .before .before .before .before .before .before .rows .ensures) at (c .before .before .before .before .before .if1 .left))
+    let tests = c .before in
+    c .tag-label .ensures
+    ∙ row-tag _ _ _ _
+    (rw (tests .before .before .before .before .before .before .rows .ensures) at (tests .before .before .before .before .before .if1 .left))
     _ _
-    (c .before .before .before .before .blocks2 .ensures)
-    (c .before .before .blocks3 .ensures)
-    (c .before .before .before .if2 .left)
-    (c .before .if3 .left)
-    (c .if4 .taken)
+    (tests .before .before .before .before .blocks2 .ensures)
+    (tests .before .before .blocks3 .ensures)
+    (tests .before .before .before .if2 .left)
+    (tests .before .if3 .left)
+    (tests .if4 .taken)
 
 sub-block-label : tie.Need-sub-block-label
 sub-block-label c = search needs
@@ -92,6 +99,7 @@ row-spec =
     blocks-requires-2
     block-label-requires-2
     returns-3
+    tag-label-requires
     returns-4
     sub-block-label
     block-label-requires-3
