@@ -12,7 +12,7 @@ const FILES: [&str; 3] = ["lib.rs", "deoxys_bc.rs", "modes.rs"];
 
 fn main() {
     println!("cargo::rustc-check-cfg=cfg(crate_given)");
-    println!("cargo::rustc-check-cfg=cfg(feature, values(any()))"); // the crate's; none is on
+    println!("cargo::rustc-check-cfg=cfg(feature, values(any()))"); // the crate's; none of them is on
     println!("cargo::rerun-if-changed=build.rs");
     println!("cargo::rerun-if-env-changed=DEOXYS_SRC");
     let out = PathBuf::from(env::var_os("OUT_DIR").expect("cargo sets it"));

@@ -5,12 +5,19 @@ mod stopwatch;
 
 use cases::Case;
 use deoxys::{SUITES, Suite};
+use std::process::ExitCode;
 use stopwatch::{Operation, Side, Task};
 
 const DATA_LENGTH: usize = 18;
 const MESSAGE_LENGTHS: [usize; 5] = [16, 144, 4096, 65_536, 1_048_576];
 
-fn main() {
+fn main() -> ExitCode {
+    if oracle::COUNTS_ROUNDS {
+        eprintln!(
+            "built together with compare, which counts the crate's rounds: use `-p bench` alone"
+        );
+        return ExitCode::FAILURE;
+    }
     let sides = sides();
     print_heading();
     for suite in &SUITES {
@@ -20,6 +27,7 @@ fn main() {
             }
         }
     }
+    ExitCode::SUCCESS
 }
 
 /// Ours first, then the crate as far as it can run here.

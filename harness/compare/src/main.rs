@@ -36,6 +36,7 @@ fn main() -> ExitCode {
 }
 
 fn compare() -> ExitCode {
+    oracle::use_instructions(true);
     let mut report = Report::default();
     for suite in &SUITES {
         for (index, (data, message)) in lengths::all().enumerate() {

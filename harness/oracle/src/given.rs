@@ -77,7 +77,7 @@ fn array<N: ArraySize>(bytes: &[u8]) -> Array<u8, N> {
 #[cfg(test)]
 mod tests {
     use super::{open, seal};
-    use crate::{count_calls, use_instructions};
+    use crate::use_instructions;
 
     fn bytes(hex: &str) -> Vec<u8> {
         let byte = |at| u8::from_str_radix(&hex[at..at + 2], 16).unwrap();
@@ -110,8 +110,10 @@ mod tests {
         }
     }
 
+    #[cfg(feature = "count")]
     #[test]
     fn block_calls_of_nine_whole_blocks() {
+        use crate::count_calls;
         let mut buffer = [0; 144];
         let (_, calls) = count_calls(1, || seal(1, &[0; 16], &[0; 8], &[0; 16], &mut buffer));
         assert_eq!(calls, 11);

@@ -16,12 +16,13 @@ pub use given::{open, seal};
 #[cfg(crate_given)]
 use given::{DeoxysBcType, DeoxysKey, Tweak};
 
-pub use aes::{instructions_present, use_instructions};
+pub use aes::{COUNTS_ROUNDS, instructions_present, use_instructions};
 
 /// Why the crate's files weren't there when this was built; `None` where they were.
 pub const WHY_NOT_GIVEN: Option<&str> = option_env!("WHY_NO_CRATE");
 
 /// Runs `work` and gives the number of block cipher calls that the crate made in it, all of one suite.
+#[cfg(feature = "count")]
 pub fn count_calls<R>(suite: u8, work: impl FnOnce() -> R) -> (R, usize) {
     let rounds_of_a_call = match suite {
         1 | 3 => 14,

@@ -8,7 +8,7 @@ macro_rules! by_either_path {
     ($piece:ident($($block:expr),+)) => {
         #[cfg(target_arch = "x86_64")]
         if crate::instructions_in_use() {
-            // SAFETY: the processor has the instructions: `instructions_in_use` has just asked it.
+            // SAFETY: the processor has the instructions: `use_instructions` turns them on nowhere else.
             #[allow(unsafe_code)]
             return unsafe { crate::instructions::$piece($($block),+) };
         }
@@ -19,14 +19,16 @@ macro_rules! by_either_path {
 /// Substitute, turn the rows, mix the columns, XOR the key.
 #[inline]
 pub fn cipher_round(block: &mut Block, round_key: &Block) {
-    crate::count_round();
+    #[cfg(feature = "count")]
+    crate::count::count_round();
     by_either_path!(cipher_round(&mut block.0, &round_key.0));
 }
 
 /// The inverses of the three steps in the same order, then XOR the key, which the caller has unmixed.
 #[inline]
 pub fn equiv_inv_cipher_round(block: &mut Block, round_key: &Block) {
-    crate::count_round();
+    #[cfg(feature = "count")]
+    crate::count::count_round();
     by_either_path!(equiv_inv_cipher_round(&mut block.0, &round_key.0));
 }
 
@@ -43,7 +45,7 @@ pub fn inv_mix_columns(block: &mut Block) {
 #[cfg(test)]
 mod tests {
     use super::*;
-    use crate::{count_rounds, instructions_present, use_instructions};
+    use crate::{instructions_present, use_instructions};
 
     /// FIPS 197, appendix B: the state at the start of round 2, its round key, and the state after it.
     const START: u128 = 0xa49c7ff2689f352b6b5bea43026a5049;
@@ -106,9 +108,10 @@ mod tests {
         }
     }
 
+    #[cfg(feature = "count")]
     #[test]
     fn rounds_are_counted_and_nothing_else() {
-        let ((), rounds) = count_rounds(|| {
+        let ((), rounds) = crate::count_rounds(|| {
             let mut state = block(START);
             mix_columns(&mut state);
             cipher_round(&mut state, &block(KEY));
