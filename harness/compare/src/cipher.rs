@@ -54,7 +54,7 @@ pub fn check(case: &Case, report: &mut Report) {
     for part in Part::ALL {
         let bits = 8 * opening.part(part).len();
         if bits > 0 {
-            checker.damaged_opening(opening.clone(), part, generator.below(bits));
+            checker.damaged_opening(&opening, part, generator.below(bits));
         }
     }
 }
@@ -63,7 +63,7 @@ pub fn check_every_tag_bit(case: &Case, report: &mut Report) {
     let mut checker = Checker::new(case, report);
     let opening = checker.sealing();
     for bit in 0..128 {
-        checker.damaged_opening(opening.clone(), Part::Tag, bit);
+        checker.damaged_opening(&opening, Part::Tag, bit);
     }
 }
 
@@ -106,17 +106,47 @@ impl<'a> Checker<'a> {
         self.bytes(Kind::Message, &opened.crate_bytes, &self.case.message);
     }
 
-    fn damaged_opening(&mut self, mut opening: Opening, part: Part, bit: usize) {
+    fn damaged_opening(&mut self, whole: &Opening, part: Part, bit: usize) {
         self.damage = Some((part, bit));
-        opening.part(part)[bit / 8] ^= 1 << (bit % 8);
-        let opened = self.open(Kind::DamagedCalls, &opening);
+        let mut damaged = whole.clone();
+        damaged.part(part)[bit / 8] ^= 1 << (bit % 8);
+        let opened = self.open(Kind::DamagedCalls, &damaged);
         let both_refuse = Verdicts { our_number: 7, crate_accepts: false };
         self.values(Kind::Damaged(part), opened.verdicts, both_refuse);
-        let zeros = vec![0; opening.ciphertext.len()];
+        let zeros = vec![0; damaged.ciphertext.len()];
         self.bytes(Kind::Zeros, &opened.our_bytes, &zeros);
-        if opened.crate_bytes != zeros {
-            self.report.known_difference(self.suite, Kind::CrateLeftBytes);
+        if self.case.message.is_empty() {
+            return;
         }
+        if self.case.suite.is_two_pass() {
+            let keystream = self.keystream(whole, &damaged, part);
+            let recovered = xor(&damaged.ciphertext, &keystream);
+            self.bytes(Kind::CrateLeftBytes, &opened.crate_bytes, &recovered);
+        } else {
+            let sealed_again = self.sealed_by_us(&damaged, &opened.crate_bytes);
+            self.bytes(Kind::CrateLeftBytes, &sealed_again, &damaged.ciphertext);
+        }
+    }
+
+    /// In Deoxys-I each message has its own ciphertext, whatever the tag: what seals to the damaged
+    /// ciphertext is what the damaged ciphertext deciphers to.
+    fn sealed_by_us(&self, damaged: &Opening, message: &[u8]) -> Vec<u8> {
+        let Opening { key, nonce, data, .. } = damaged;
+        let mut buffer = message.to_vec();
+        ffi::seal(self.suite, key, nonce, data, &mut buffer);
+        buffer
+    }
+
+    /// In Deoxys-II a message is XORed with a keystream of key, nonce and tag. If one of these is
+    /// damaged, nobody knows the keystream but the crate, which leaves it where it opens zeros.
+    fn keystream(&self, whole: &Opening, damaged: &Opening, part: Part) -> Vec<u8> {
+        if matches!(part, Part::Data | Part::Ciphertext) {
+            return xor(&self.case.message, &whole.ciphertext);
+        }
+        let Opening { key, nonce, data, tag, .. } = damaged;
+        let mut buffer = vec![0; self.case.message.len()];
+        oracle::open(self.suite, key, nonce, data, &mut buffer, tag);
+        buffer
     }
 
     fn open(&mut self, calls_kind: Kind, opening: &Opening) -> Opened {
@@ -142,7 +172,7 @@ impl<'a> Checker<'a> {
         let ours = self.case.rows();
         let by_crate = ours + usize::from(one_more);
         if calls.by_crate == ours + 1 {
-            self.report.known_difference(self.suite, Kind::OneCallMore);
+            self.report.count(self.suite, Kind::OneCallMore);
         }
         self.values(kind, calls, Calls { ours, by_crate });
     }
@@ -163,6 +193,10 @@ impl<'a> Checker<'a> {
 fn name(case: &Case, damage: Option<(Part, usize)>) -> String {
     let damage = damage.map(|(part, bit)| format!(", bit {bit} of the {} flipped", part.name()));
     case.name() + &damage.unwrap_or_default()
+}
+
+fn xor(a: &[u8], b: &[u8]) -> Vec<u8> {
+    a.iter().zip(b).map(|(a, b)| a ^ b).collect()
 }
 
 /// Lends `work` a buffer that holds `bytes`. Gives what it holds then, and whether the bytes before and

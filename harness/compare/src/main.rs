@@ -37,7 +37,7 @@ fn main() -> ExitCode {
 
 fn compare() -> ExitCode {
     oracle::use_instructions(true);
-    let mut report = Report::default();
+    let mut report = Report::new();
     for suite in &SUITES {
         for (index, (data, message)) in lengths::all().enumerate() {
             cipher::check(&Case::new(suite, data, message, index as u64), &mut report);
@@ -48,5 +48,5 @@ fn compare() -> ExitCode {
         refusals::check(suite, &mut report);
     }
     report.print();
-    if report.differing() == 0 { ExitCode::SUCCESS } else { ExitCode::FAILURE }
+    if report.is_good() { ExitCode::SUCCESS } else { ExitCode::FAILURE }
 }

@@ -1,5 +1,6 @@
 //! What was compared, how often, and the first difference.
 
+use deoxys::{SUITES, Suite};
 use std::{collections::BTreeMap, fmt::Debug};
 
 #[derive(Clone, Copy, PartialEq, Eq, PartialOrd, Ord)]
@@ -13,11 +14,11 @@ pub enum Kind {
     OpeningCalls,
     Damaged(Part),
     Zeros,
+    CrateLeftBytes,
     DamagedCalls,
     Surroundings,
     Refused(usize),
     OneCallMore,
-    CrateLeftBytes,
 }
 
 /// What of an opening is damaged.
@@ -45,6 +46,27 @@ impl Part {
 }
 
 impl Kind {
+    /// Those that must come up in a suite.
+    fn all(suite: &Suite) -> Vec<Kind> {
+        let mut kinds = vec![
+            Kind::SealingDone,
+            Kind::Ciphertext,
+            Kind::Tag,
+            Kind::SealingCalls,
+            Kind::OpeningDone,
+            Kind::Message,
+            Kind::OpeningCalls,
+            Kind::Zeros,
+            Kind::CrateLeftBytes,
+            Kind::DamagedCalls,
+            Kind::Surroundings,
+        ];
+        kinds.extend(Part::ALL.map(Kind::Damaged));
+        kinds.extend((1..=6).map(Kind::Refused));
+        kinds.extend(suite.is_two_pass().then_some(Kind::OneCallMore));
+        kinds
+    }
+
     fn label(self) -> String {
         match self {
             Kind::SealingDone => "sealing: number 0",
@@ -58,18 +80,22 @@ impl Kind {
                 return format!("one bit of the {}: 7, refused by both", part.name());
             }
             Kind::Zeros => "after 7: every byte of our buffer zero",
+            Kind::CrateLeftBytes => "after 7: the recovered bytes in the crate's buffer",
             Kind::DamagedCalls => "after 7: block calls",
             Kind::Surroundings => "bytes before and after our buffer untouched",
             Kind::Refused(number) => return format!("refused with {number}: answer and buffer"),
             Kind::OneCallMore => "the crate made one block call more (whole blocks)",
-            Kind::CrateLeftBytes => "the crate left recovered bytes after a wrong tag",
         }
         .to_string()
     }
 
-    /// Known differences are counted, and are no failures.
-    fn is_known_difference(self) -> bool {
-        matches!(self, Kind::OneCallMore | Kind::CrateLeftBytes)
+    /// No comparison: the lines of block calls hold each case to it.
+    fn is_only_counted(self) -> bool {
+        self == Kind::OneCallMore
+    }
+
+    fn is_ours_alone(self) -> bool {
+        matches!(self, Kind::SealingDone | Kind::Zeros | Kind::Surroundings | Kind::Refused(_))
     }
 }
 
@@ -79,10 +105,8 @@ struct Count {
     differing: usize,
 }
 
-#[derive(Default)]
 pub struct Report {
     counts: BTreeMap<(u8, Kind), Count>,
-    total: Count,
     first_difference: Option<String>,
 }
 
@@ -100,6 +124,12 @@ impl<'a> Place<'a> {
 }
 
 impl Report {
+    pub fn new() -> Self {
+        let kinds = |suite| Kind::all(suite).into_iter().map(|kind| (suite.number, kind));
+        let counts = SUITES.iter().flat_map(kinds).map(|line| (line, Count::default()));
+        Report { counts: counts.collect(), first_difference: None }
+    }
+
     pub fn values<T: PartialEq + Debug>(&mut self, place: Place, seen: T, expected: T) {
         let same = seen == expected;
         self.note(place, same, || format!("{seen:?}, expected {expected:?}"));
@@ -114,16 +144,14 @@ impl Report {
         });
     }
 
-    pub fn known_difference(&mut self, suite: u8, kind: Kind) {
+    pub fn count(&mut self, suite: u8, kind: Kind) {
         self.counts.entry((suite, kind)).or_default().compared += 1;
     }
 
     fn note(&mut self, place: Place, same: bool, describe: impl FnOnce() -> String) {
         let count = self.counts.entry((place.suite, place.kind)).or_default();
-        for count in [count, &mut self.total] {
-            count.compared += 1;
-            count.differing += usize::from(!same);
-        }
+        count.compared += 1;
+        count.differing += usize::from(!same);
         if !same {
             self.first_difference.get_or_insert_with(|| {
                 format!("{}: {}: {}", (place.name)(), place.kind.label(), describe())
@@ -131,24 +159,69 @@ impl Report {
         }
     }
 
-    pub fn differing(&self) -> usize {
-        self.total.differing
+    /// Nothing differs, and no line is empty.
+    pub fn is_good(&self) -> bool {
+        self.counts.values().all(|count| count.compared > 0 && count.differing == 0)
     }
 
     pub fn print(&self) {
         for ((suite, kind), count) in &self.counts {
-            let Count { compared, differing } = count;
-            let label = kind.label();
-            if kind.is_known_difference() {
-                println!("suite {suite}  {label:<52} {compared:>6} times, as expected");
-            } else {
-                println!("suite {suite}  {label:<52} {compared:>6} compared, {differing} differ");
-            }
+            println!("suite {suite}  {:<52} {}", kind.label(), shown(*kind, count));
         }
         if let Some(difference) = &self.first_difference {
             println!("first difference: {difference}");
         }
-        let Count { compared, differing } = self.total;
-        println!("total: {compared} compared, {differing} differ");
+        self.print_total("with an answer of the crate", |kind| !kind.is_ours_alone());
+        self.print_total("of our side alone", Kind::is_ours_alone);
+        self.print_total("total", |_| true);
+    }
+
+    fn print_total(&self, name: &str, belongs: impl Fn(Kind) -> bool) {
+        let mut total = Count::default();
+        for ((_, kind), count) in &self.counts {
+            if belongs(*kind) && !kind.is_only_counted() {
+                total.compared += count.compared;
+                total.differing += count.differing;
+            }
+        }
+        println!("{name}: {} compared, {} differ", total.compared, total.differing);
+    }
+}
+
+fn shown(kind: Kind, Count { compared, differing }: &Count) -> String {
+    if *compared == 0 {
+        "  none: FAILED".to_string()
+    } else if kind.is_only_counted() {
+        format!("{compared:>6} times, as expected")
+    } else {
+        format!("{compared:>6} compared, {differing} differ")
+    }
+}
+
+#[cfg(test)]
+mod tests {
+    use super::*;
+
+    fn report_with_one_of_each() -> Report {
+        let mut report = Report::new();
+        report.counts.values_mut().for_each(|count| count.compared = 1);
+        report
+    }
+
+    #[test]
+    fn an_empty_line_is_a_failure() {
+        let mut report = report_with_one_of_each();
+        assert!(report.is_good());
+        report.counts.get_mut(&(1, Kind::CrateLeftBytes)).unwrap().compared = 0;
+        assert!(!report.is_good());
+    }
+
+    #[test]
+    fn a_difference_is_a_failure() {
+        let mut report = report_with_one_of_each();
+        report.values(Place::new(4, Kind::Tag, &|| "a case".to_string()), 1, 2);
+        assert!(!report.is_good());
+        let told = "a case: sealing: tag as the crate's: 1, expected 2";
+        assert_eq!(report.first_difference.as_deref(), Some(told));
     }
 }
