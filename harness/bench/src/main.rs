@@ -33,7 +33,7 @@ fn main() -> ExitCode {
 /// Ours first, then the crate as far as it can run here.
 fn sides() -> Vec<Side> {
     let mut sides = vec![Side::Ours];
-    if oracle::WHY_NOT_GIVEN.is_none() {
+    if oracle::GIVEN {
         if oracle::instructions_present() {
             sides.push(Side::CrateWithInstructions);
         }
@@ -46,8 +46,8 @@ fn print_heading() {
     println!("Processor: {}.", processor());
     let present = oracle::instructions_present();
     println!("AES instructions: {}.", if present { "there" } else { "not there" });
-    if let Some(reason) = oracle::WHY_NOT_GIVEN {
-        println!("Our side only: {reason}, so the crate's files are not here.");
+    if !oracle::GIVEN {
+        println!("Our side only: DEOXYS_SRC isn't set, so the crate's files are not here.");
     }
     println!(
         "Nanoseconds a call, medians; {DATA_LENGTH} bytes of data. Every call expands its key, on all \

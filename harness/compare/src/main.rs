@@ -14,18 +14,18 @@ use std::process::ExitCode;
 
 fn main() -> ExitCode {
     let words: Vec<String> = std::env::args().skip(1).collect();
-    match (words.as_slice(), oracle::WHY_NOT_GIVEN) {
-        ([], None) => compare(),
-        ([], Some(reason)) => {
-            println!("nothing compared: {reason}, so the crate's files are not here");
+    match (words.as_slice(), oracle::GIVEN) {
+        ([], true) => compare(),
+        ([], false) => {
+            println!("nothing compared: DEOXYS_SRC isn't set, so the crate's files are not here");
             ExitCode::SUCCESS
         }
-        ([word], None) if word == "--sample" => {
+        ([word], true) if word == "--sample" => {
             print!("{}", sample::text());
             ExitCode::SUCCESS
         }
-        ([word], Some(reason)) if word == "--sample" => {
-            eprintln!("no sample: {reason}, so the crate's files are not here");
+        ([word], false) if word == "--sample" => {
+            eprintln!("no sample: DEOXYS_SRC isn't set, so the crate's files are not here");
             ExitCode::FAILURE
         }
         _ => {

@@ -1,5 +1,5 @@
 //! The crate `deoxys` to compare with: its own three files over the stand-ins, behind one pair of
-//! functions. `WHY_NOT_GIVEN` says whether they were there when this was built.
+//! functions. `GIVEN` says whether DEOXYS_SRC named them when this was built.
 #![forbid(unsafe_code)]
 
 #[cfg(not(crate_given))]
@@ -18,8 +18,7 @@ use given::{DeoxysBcType, DeoxysKey, Tweak};
 
 pub use aes::{COUNTS_ROUNDS, instructions_present, use_instructions};
 
-/// Why the crate's files weren't there when this was built; `None` where they were.
-pub const WHY_NOT_GIVEN: Option<&str> = option_env!("WHY_NO_CRATE");
+pub const GIVEN: bool = cfg!(crate_given);
 
 /// Runs `work` and gives the number of block cipher calls that the crate made in it, all of one suite.
 #[cfg(feature = "count")]
