@@ -18,6 +18,7 @@ fn main() -> ExitCode {
         ([], true) => compare(),
         ([], false) => {
             println!("nothing compared: DEOXYS_SRC isn't set, so the crate's files are not here");
+            print_instructions();
             ExitCode::SUCCESS
         }
         ([word], true) if word == "--sample" => {
@@ -35,8 +36,18 @@ fn main() -> ExitCode {
     }
 }
 
+fn print_instructions() {
+    let there = if oracle::instructions_present() {
+        "there"
+    } else {
+        "not there, so that the stand-in's plain path alone was tried"
+    };
+    println!("AES instructions: {there}");
+}
+
 fn compare() -> ExitCode {
     oracle::use_instructions(true);
+    print_instructions();
     let mut report = Report::new();
     for suite in &SUITES {
         for (index, (data, message)) in lengths::all().enumerate() {
