@@ -7,7 +7,8 @@ pub const AROUND_BLOCKS: [usize; 9] = [0, 1, 15, 16, 17, 31, 32, 33, 48];
 
 const SHORT_MESSAGES: std::ops::RangeInclusive<usize> = 0..=80;
 
-/// The block number grows by a byte at 4,096 bytes, and again at the limit.
+/// Block numbers take a second byte from 256 on, after 4,096 bytes. At the limit the last block is number
+/// 65,535, so that only the number in Deoxys-I's tag, 65,536, takes a third.
 const LONG: [usize; 17] = [
     255,
     256,
