@@ -21,7 +21,8 @@ struct suite {
 };
 
 /* The rows are those of 18 bytes of data (2 blocks) and 37 of message (3). The
- * ciphertexts and tags come from another program for Deoxys, not from the archive. */
+ * ciphertexts and tags come from model.py, the Python model of the four suites
+ * that crates/vectors/data/README.md speaks of, and not from the archive. */
 static const struct suite suites[] = {
     {DEOXYS_I_128, "Deoxys-I-128", 16, 8, 6,
      "13a61646ae36b63e89f3a5d58da19fc50b7f19553ecbd844bc24371b0a8db3f4a2e9bc70d8",
