@@ -2,7 +2,7 @@
 
     python3 make.py lengths MODEL      vectors of every pair of lengths in each suite, by the model
     python3 make.py refusals MODEL     calls with one fault and with two, and the number that the model gives
-    python3 make.py limits MODEL       the greatest lengths and one byte more, by the model; takes minutes
+    python3 make.py limits MODEL       the greatest lengths and one byte more, by the model; takes about a minute and a half
     python3 make.py published VECTORS  published vectors (SUITE .. TAG), with ROWS added
     python3 make.py crate VECTORS      the crate's answers (SUITE .. TAG), with ROWS added
 
