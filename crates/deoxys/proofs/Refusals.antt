@@ -1,7 +1,7 @@
 -- The refusals in their order, each as the test that gives it leaves it; and what holds where none applies.
 -- Assumes nothing.
 use mathlib.Core.Path.{_≡_, refl, _∙_}
-use mathlib.Core.Bool.{Bool, true, false}
+use mathlib.Core.Bool.{Bool, true, false, not}
 use mathlib.Core.Logic.{_⊎_, inl, inr}
 use Prim.Native.Nat.{ℕ, zero, suc, _≤_, _<_}
 use native.Mathlib.Nat.{suc-ne-zero}
@@ -9,7 +9,7 @@ use native.Mathlib.Omega.{arith}
 use lib.Dec.{eqb}
 use borrow.Author.Tests.{eq-eqb, ne-eqb, lt-ltb, le-ltb, le-leb, lt-leb, eqb-true, ltb-false, not-false}
 use Rattle.octets.specs.Octets.{pick}
-use Rattle.deoxys.specs.Suites.{keyLength, nonceLength, refusal}
+use Rattle.deoxys.specs.Suites.{isSuite, keyLength, nonceLength, refusal}
 
 -- ---- what the code's tests show
 
@@ -69,7 +69,7 @@ passed false n x e = (refl, e)
 pub good : (suite key nonce ad text : ℕ) → refusal suite key nonce ad text ≡ 0 → Good suite key nonce ad text
 unfolding refusal
 good suite key nonce ad text e =
-    let p₁ = passed _ _ _ e in
+    let p₁ = passed (not (isSuite suite)) 0 _ e in
     let p₂ = passed _ _ _ (p₁ .1) in
     let p₃ = passed _ _ _ (p₂ .1) in
     let p₄ = passed _ _ _ (p₃ .1) in
