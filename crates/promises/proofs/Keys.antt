@@ -9,7 +9,7 @@ use lib.Dec.{lit<}
 use lib.ListN.{length, getD, take, drop, replicate, length-drop}
 use lib.Seq.{take-all}
 use borrow.Author.Tests.{eq-eqb, ne-eqb}
-use Rattle.octets.specs.Octets.{Bytes, Block, _⊕_}
+use Rattle.octets.specs.Octets.{Bytes, Block}
 use Rattle.octets.proofs.Xor.{⊕-block}
 use Rattle.octets.proofs.Parts.{part-block}
 use Rattle.aes.proofs.Linear.{double-lt}

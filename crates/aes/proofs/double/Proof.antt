@@ -1,4 +1,5 @@
--- both branches at every byte, by one test
+-- `aes::double` meets its contract: both branches at every byte, by one test.
+-- Assumes nothing.
 use mathlib.Core.Path.{_≡_}
 use Prim.Native.Nat.{ℕ, _*_, _%_, _<_}
 use lib.Bits.{bitXor}

@@ -1,4 +1,5 @@
--- a key that is not of 16 bytes is of 32
+-- `deoxys_bc::tweakey::precompute_subkeys` meets its contract: a key that is not of 16 bytes is of 32.
+-- Assumes nothing.
 use mathlib.Core.Logic.{_⊎_, ⊎-elim}
 use mathlib.Core.Path.{_≡_, _∙_}
 use Prim.Native.Nat.{ℕ}

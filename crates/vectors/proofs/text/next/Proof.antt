@@ -1,4 +1,4 @@
--- `vectors::text::next` meets its contract: the loop ends at the line's end or the text's.
+-- `vectors::text::next` meets its contract: past the space that was found, or at the line's end.
 -- Assumes nothing.
 use borrow.Author.Needs.{needs}
 use Rattle.vectors.proofs.Spelling.{next-field, no-field}

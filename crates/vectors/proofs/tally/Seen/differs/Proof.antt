@@ -1,4 +1,4 @@
--- `vectors::tally::Seen::differs` meets its contract: nothing differs exactly where every test says so.
+-- `vectors::tally::Seen::differs` meets its contract: where it answers that nothing differs, no test was taken.
 -- Assumes nothing.
 use borrow.Author.Tests.{not-false}
 use borrow.Author.Needs.{needs}
