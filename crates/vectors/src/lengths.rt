@@ -153,7 +153,7 @@ fn refused_opening(a: Attempt, tag: &[u8], data: &[u8], buffer: &mut [u8]) -> Wh
 // A line `seal SUITE KEY NONCE DATA MESSAGE NUMBER ROWS`.
 fn seal_line(text: &[u8], line: usize, tally: Tally, data: &[u8], buffer: &mut [u8]) -> Tally {
     let a = attempt_of(read(text, 1, 7), 5);
-    if !a.good {
+    if !a.good || !text::ends(text, 8) {
         return tally.with_bad_line(line);
     }
     if a.message > buffer.len() {
@@ -168,7 +168,7 @@ fn open_line(text: &[u8], line: usize, tally: Tally, data: &[u8], buffer: &mut [
     let n = read(text, 1, 8);
     let v = n.values;
     let a = attempt_of(n, 6);
-    if !a.good {
+    if !a.good || !text::ends(text, 9) {
         return tally.with_bad_line(line);
     }
     if a.message > buffer.len() {
@@ -216,7 +216,7 @@ pub fn limited(text: &[u8], line: usize, tally: Tally, data: &[u8], buffer: &mut
     let spelled = text::with_field(text::nothing(), text::field(text, 8));
     let bytes = spelled.bytes;
     let tag = taken(&bytes, 0, 16);
-    if !a.good || !spelled.good {
+    if !a.good || !spelled.good || spelled.length != 16 || !text::ends(text, 9) {
         return tally.with_bad_line(line);
     }
     if a.message > buffer.len() {

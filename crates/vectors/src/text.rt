@@ -2,6 +2,7 @@
 ghost use mathlib.Core.Path.{_≡_};
 ghost use mathlib.Core.Bool.{true};
 ghost use Prim.Native.Nat.{suc, _≤_, _<_, _/_, _%_};
+ghost use lib.Dec.{eqb};
 ghost use lib.ListN.{length, drop};
 ghost use Rattle.bytes.specs.Bytes.{indexOf};
 ghost use Rattle.io.specs.Digits.{digits, glyph};
@@ -32,6 +33,13 @@ pub fn field(line: &[u8], k: usize) -> &[u8]
     }
     let to = bytes::scan::find(line, from, line.len(), b' ');
     &line[from..to]
+}
+
+// Whether the line has no field past the first so many.
+pub fn ends(line: &[u8], fields: usize) -> bool
+    ensures { λ r. ⌜ r ≡ eqb (length (fieldOf fields (now (line .entry)))) 0 ⌝ }
+{
+    field(line, fields).len() == 0
 }
 
 // A number read so far, and whether every byte of it was a digit.

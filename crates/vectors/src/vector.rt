@@ -76,7 +76,7 @@ fn read(line: &[u8]) -> Case {
     }
     c.suite = suite.value as u8;
     c.rows = rows.value;
-    c.good = c.good && suite.good && rows.good;
+    c.good = c.good && suite.good && rows.good && text::ends(line, 8);
     c
 }
 
