@@ -5,7 +5,7 @@ use mathlib.Core.List.{List, _++_}
 use Prim.Native.Nat.{ℕ, _-_}
 use native.Mathlib.Omega.{arith}
 use lib.ListN.{length, take, drop}
-use lib.Seq.{take-at, take-length, length-take-le}
+use lib.Seq.{take-at, drop-at, take-length, length-take-le}
 use Rattle.octets.proofs.Parts.{rest-is}
 use Rattle.deoxys.specs.Entry.{Opening, opening}
 use Rattle.deoxys.specs.declared.Opened.{Opened}
@@ -25,8 +25,9 @@ module _ (file tag blank : List ℕ) (at n : ℕ) (is-n : n ≡ length (rest fil
   module _ (suite : ℕ) (key nonce ad last : List ℕ) (answer : Opened) where
     pub parcel-opened : at ≡ tagAt file → length last ≡ length (take at file)
         → _≡_ {A = Opening} (record { answer = answer; buffer = last }) (opening suite key nonce ad (take at file) (take n tag))
-        → _≡_ {A = Opening} (record { answer = answer; buffer = take (tagAt file) (last ++ drop at file) })
-        (opening suite key nonce ad (cipherIn file) (tagIn file))
+        → (_≡_ {A = Opening} (record { answer = answer; buffer = take (tagAt file) (last ++ drop at file) })
+        (opening suite key nonce ad (cipherIn file) (tagIn file)))
+        × (drop (tagAt file) (last ++ drop at file) ≡ tagIn file)
     parcel-opened a l e =
         let k : length last ≡ at = l ∙ length-take-le at file (omega arith) in
-        rw (← a, take-at last (drop at file) at k, ← tag-copied) e
+        (rw (← a, take-at last (drop at file) at k, ← tag-copied) e, rw (← a) (drop-at last (drop at file) at k))
