@@ -1,4 +1,4 @@
--- `piverrone::open` meets its contract: the ciphertext is what stands before the tag.
+-- `piverrone::open` is safe and ends: the ciphertext is what stands before the tag.
 -- Assumes nothing.
 use mathlib.Core.Path.{sym}
 use lib.Seq.{length-take-le}

@@ -1,4 +1,4 @@
--- `piverrone::table` meets its contract: a row's number is below the table's length.
+-- `piverrone::table` is safe and ends: a row's number is below the table's length.
 -- Assumes nothing.
 use Prim.Native.Nat.{_-_}
 use borrow.Author.Needs.{needs}
