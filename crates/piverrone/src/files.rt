@@ -70,14 +70,14 @@ fn read_file(path: &[u8], buffer: &mut [u8]) -> Got
     got
 }
 
-// Reads the file that argument i names.
-pub fn read_named(i: usize, buffer: &mut [u8]) -> Got
+// Reads the file that argument i names. The usage calls that argument `word`.
+pub fn read_named(i: usize, word: &[u8], buffer: &mut [u8]) -> Got
     ensures { λ r. ⌜ Counts (r .count) (now (buffer .exit)) ⌝ }
 {
     let mut space = io::buffer();
     let n = os::arg(i, &mut space);
     if os::errno() != 0 {
-        os::fail(b"a file's name");
+        os::fail(word);
         return Got {
             whole: false,
             count: 0,
@@ -122,12 +122,12 @@ fn named_beside(path: &[u8], beside: &mut [u8]) -> usize
     n + bytes::copy(b".part", &mut beside[n..])
 }
 
-// Writes the file that argument i names, or tells what failed.
+// Writes the file that argument i, OUT, names, or tells what failed.
 pub fn write_named(i: usize, body: &[u8], tail: &[u8]) -> bool {
     let mut space = io::buffer();
     let n = os::arg(i, &mut space);
     if os::errno() != 0 {
-        os::fail(b"a file's name");
+        os::fail(b"OUT");
         return false;
     }
     let mut beside = [0u8; 4101];

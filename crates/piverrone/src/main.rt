@@ -34,25 +34,25 @@ fn seal_or_open(opening: bool) {
     let mut nonce = [0u8; NONCE_SPACE];
     let mut ad = files::large_space();
     let mut text = files::large_space();
-    let k = files::read_named(3, &mut key);
-    let n = files::read_named(4, &mut nonce);
-    let a = files::read_named(5, &mut ad);
-    let t = files::read_named(6, &mut text);
-    if !k.whole || !n.whole || !a.whole || !t.whole {
+    let key_read = files::read_named(3, b"KEYFILE", &mut key);
+    let nonce_read = files::read_named(4, b"NONCEFILE", &mut nonce);
+    let ad_read = files::read_named(5, b"DATAFILE", &mut ad);
+    let text_read = files::read_named(6, b"IN", &mut text);
+    if !key_read.whole || !nonce_read.whole || !ad_read.whole || !text_read.whole {
         return;
     }
-    let ke = k.count;
-    let ne = n.count;
-    let ae = a.count;
-    let te = t.count;
+    let key_end = key_read.count;
+    let nonce_end = nonce_read.count;
+    let ad_end = ad_read.count;
+    let text_end = text_read.count;
     let suite = numbers::suite_named(2);
     work(
         opening,
         suite,
-        &key[..ke],
-        &nonce[..ne],
-        &ad[..ae],
-        &mut text[..te],
+        &key[..key_end],
+        &nonce[..nonce_end],
+        &ad[..ad_end],
+        &mut text[..text_end],
     );
 }
 

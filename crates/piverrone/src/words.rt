@@ -49,9 +49,10 @@ pub fn refused(number: u8) {
         2 => warn(b", the key's length is not the suite's\n"),
         3 => warn(b", the nonce's length is not the suite's\n"),
         4 => warn(b", the data is over 1048576 bytes\n"),
-        5 => warn(b", the message is over 1048576 bytes\n"),
+        5 => warn(b", the message or ciphertext is over 1048576 bytes\n"),
         6 => warn(b", the tag is not 16 bytes\n"),
-        _ => warn(b", the tag is not the computed one\n"),
+        7 => warn(b", the tag is not the computed one\n"),
+        _ => warn(b", for which this program has no words\n"),
     }
 }
 
@@ -71,7 +72,8 @@ fn kind(kind: u8) -> bool {
         risk::DATA => say(b" data "),
         risk::MESSAGE => say(b" message "),
         risk::TAG => say(b" tag "),
-        _ => say(b" keystream "),
+        risk::KEYSTREAM => say(b" keystream "),
+        _ => say(b" unknown "),
     }
 }
 
