@@ -4,6 +4,9 @@ ghost use Prim.Native.Nat.{_+_, _≤_};
 ghost use lib.ListN.{length};
 ghost use Rattle.io.specs.Counts.{Counts};
 
+// Read and written by the owner, and by no other.
+const OWNER_ALONE: u32 = 0o600;
+
 // How much was read, and whether nothing failed.
 pub struct Got {
     pub whole: bool,
@@ -86,9 +89,12 @@ pub fn read_named(i: usize, word: &[u8], buffer: &mut [u8]) -> Got
     read_file(&space[..n], buffer)
 }
 
-// Writes both parts, waits for the device, and closes.
+// Makes the file its owner's alone, writes both parts, waits for the device, and closes.
 fn write_both(fd: i32, body: &[u8], tail: &[u8]) -> bool {
-    let is_written = io::write_all(fd, body) && io::write_all(fd, tail) && libc::fsync(fd) == 0;
+    let is_written = libc::fchmod(fd, OWNER_ALONE) == 0
+        && io::write_all(fd, body)
+        && io::write_all(fd, tail)
+        && libc::fsync(fd) == 0;
     let is_closed = libc::close(fd) == 0;
     is_written && is_closed
 }
