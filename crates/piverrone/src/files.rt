@@ -3,6 +3,12 @@ ghost use mathlib.Core.Path.{_≡_};
 ghost use Prim.Native.Nat.{_+_, _≤_};
 ghost use lib.ListN.{length};
 ghost use Rattle.io.specs.Counts.{Counts};
+use crate::places;
+
+// With `.part` after it and a 0 after that, OUT is still a path.
+const OUT_SPACE: usize = 4090;
+
+const PART_SPACE: usize = 4095;
 
 // Read and written by the owner, and by no other.
 const OWNER_ALONE: u32 = 0o600;
@@ -130,13 +136,16 @@ fn named_beside(path: &[u8], beside: &mut [u8]) -> usize
 
 // Writes the file that argument i, OUT, names, or tells what failed.
 pub fn write_named(i: usize, body: &[u8], tail: &[u8]) -> bool {
-    let mut space = io::buffer();
+    let mut space = [0u8; OUT_SPACE];
     let n = os::arg(i, &mut space);
     if os::errno() != 0 {
         os::fail(b"OUT");
         return false;
     }
-    let mut beside = [0u8; 4101];
+    if !places::is_free(&space[..n]) {
+        return false;
+    }
+    let mut beside = [0u8; PART_SPACE];
     let end = named_beside(&space[..n], &mut beside);
     write_over(&space[..n], &beside[..end], body, tail)
 }

@@ -5,6 +5,7 @@
 mod files;
 mod numbers;
 mod parcel;
+mod places;
 mod words;
 
 // A byte more than the longest key and nonce, so that the library sees that a file is too long.

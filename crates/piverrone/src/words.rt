@@ -56,6 +56,12 @@ pub fn refused(number: u8) {
     }
 }
 
+// An OUT that is a folder, a device, a pipe or a link.
+pub fn not_regular(path: &[u8]) {
+    warn(path);
+    warn(b": it is not a regular file\n");
+}
+
 // What was done, and its number of rows.
 pub fn done(what: &[u8], rows: usize) {
     let told = say(what)
