@@ -91,7 +91,7 @@ impl fmt::Display for Refusal {
             Refusal::BadKeyLength => "the key doesn't have the suite's length",
             Refusal::BadNonceLength => "the nonce doesn't have the suite's length",
             Refusal::DataTooLong => "the associated data is over 1,048,576 bytes",
-            Refusal::MessageTooLong => "the message is over 1,048,576 bytes",
+            Refusal::MessageTooLong => "the message or ciphertext is over 1,048,576 bytes",
             Refusal::BadTagLength => "the tag isn't 16 bytes",
             Refusal::WrongTag { .. } => "the tag is wrong",
         })
