@@ -7,7 +7,7 @@ use Prim.Native.Nat.{ℕ, _+_, _*_, _/_, _%_, _<_}
 use native.Mathlib.Omega.{arith}
 use lib.Bits.{bitXor, xor-lt}
 use lib.ListN.{length, getD}
-use Rattle.octets.specs.Octets.{Bytes, Block, _⊕_, table}
+use Rattle.octets.specs.Octets.{Bytes, Block, _⊕_, table, eachByte}
 use Rattle.octets.proofs.Xor.{⊕-at}
 use Rattle.octets.proofs.Tables.{table-block, table-eq, spelt}
 use Rattle.aes.specs.Field.{double, times}
@@ -84,12 +84,17 @@ pub mix-invMix : {s : List ℕ} → Block s → mixColumns (invMixColumns s) ≡
 unfolding mixColumns invMixColumns
 mix-invMix = columns-undone mixByte unmixByte mix-unmix
 
--- place by place, with the byte two places below
-pub folded-is : (s : List ℕ)
-    → table (λ i. bitXor (getD s i 0) (double (double (bitXor (getD s i 0) (getD (table (λ j. byteAt s ((j + 2) % 4) (j / 4)) 16) i 0))))) 16
+-- whole blocks at once, with the bytes two places below
+folded-spelt : (s : List ℕ)
+    → table (λ i. getD s i 0) 16
+    ⊕ eachByte double (eachByte double (table (λ i. getD s i 0) 16 ⊕ table (λ j. byteAt s ((j + 2) % 4) (j / 4)) 16))
     ≡ byColumns foldByte s
-unfolding table
-folded-is s = refl
+unfolding table eachByte _⊕_
+folded-spelt s = refl
+
+pub folded-is : (s : List ℕ) → length s ≡ 16
+    → s ⊕ eachByte double (eachByte double (s ⊕ table (λ j. byteAt s ((j + 2) % 4) (j / 4)) 16)) ≡ byColumns foldByte s
+folded-is s e = rw (spelt s e) at (folded-spelt s)
 
 pub mix-folded : {s : List ℕ} → Bytes s → mixColumns (byColumns foldByte s) ≡ invMixColumns s
 unfolding mixColumns invMixColumns

@@ -1,7 +1,6 @@
 // The pieces of AES (FIPS 197) that the crate takes from `aes::hazmat`: mixing, and a round each way.
 ghost use mathlib.Core.Path.{_≡_};
 ghost use Prim.Native.Nat.{_+_, _*_, _/_, _%_, _<_};
-ghost use lib.Bits.{bitXor};
 ghost use lib.ListN.{getD};
 ghost use Rattle.octets.specs.Octets.{table, eachByte};
 ghost use Rattle.aes.specs.Field.{double};
@@ -86,23 +85,23 @@ pub fn mix_columns(block: [u8; 16]) -> [u8; 16]
     out
 }
 
-// a and the byte two places from it in its column: a with four times their sum XORed in.
-fn fold_byte(a: u8, c: u8) -> u8
-    ensures { λ r. ⌜ r ≡ bitXor a (double (double (bitXor a c))) ⌝ }
+fn double_bytes(block: [u8; 16]) -> [u8; 16]
+    ensures { λ r. ⌜ r ≡ eachByte double block ⌝ }
 {
-    a ^ double(double(a ^ c))
+    let mut out = [0u8; 16];
+    for i in 0..16 {
+        out[i] = double(block[i]);
+    }
+    out
 }
 
-// The rule 0E, 0B, 0D, 09 is the rule 2, 3, 1, 1 on the folded columns: it takes doublings alone.
+// The rule 0E, 0B, 0D, 09 is the rule 2, 3, 1, 1 on folded columns: to each byte four times its sum with the byte two places from it.
 pub fn inv_mix_columns(block: [u8; 16]) -> [u8; 16]
     ensures { λ r. ⌜ r ≡ invMixColumns block ⌝ }
 {
-    let third = turn_columns(block, 2);
-    let mut folded = [0u8; 16];
-    for i in 0..16 {
-        folded[i] = fold_byte(block[i], third[i]);
-    }
-    mix_columns(folded)
+    let opposite = turn_columns(block, 2);
+    let fourfold = double_bytes(double_bytes(octets::xor_block(block, opposite)));
+    mix_columns(octets::xor_block(block, fourfold))
 }
 
 // A round, the last one too: Deoxys-BC mixes in every round.
