@@ -1,7 +1,7 @@
 -- `piverrone::places::looked` is safe and ends: a walk of its MIR, by hand, since it lends a struct. All that it knows of `lstat` is its contract.
 -- The struct is lent for a lifetime that is made for the call, and comes back at some value, which is returned.
 -- Assumes nothing.
-use mathlib.Core.Path.{_≡_, refl}
+use mathlib.Core.Path.{refl}
 use Prim.Native.Nat.{ℕ}
 use mathlib.Core.List.{[], _∷_, List}
 use lib.IntN.{ℤ}
@@ -33,7 +33,7 @@ use denote.Array.{Array}
 use denote.Builtin.{u8, i32, ArrayOf}
 use denote.Signed.{sint-lawful}
 use denote.Lend.{lends-ref}
-use denote.Memory.{partAt, lone, mem as memOf}
+use denote.Memory.{partAt, mem as memOf}
 use denote.Ref.{RefT, ShrRef, MutRef, ptr-vals, shr-tells, shr-copy}
 use denote.Steps.{peeks, nothing}
 use denote.Struct.Laws as LL
