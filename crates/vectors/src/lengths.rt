@@ -80,7 +80,7 @@ fn taken(s: &[u8], from: usize, n: usize) -> &[u8] {
     &s[..0]
 }
 
-fn sealed(a: Attempt, data: &[u8], buffer: &mut [u8]) -> Seen
+fn sealed(a: Attempt, wanted: &[u8], data: &[u8], buffer: &mut [u8]) -> Seen
     requires { ⌜ a .message ≤ length (now buffer) ⌝ }
 {
     let m = a.message;
@@ -96,8 +96,8 @@ fn sealed(a: Attempt, data: &[u8], buffer: &mut [u8]) -> Seen
     let tag = answer.tag;
     Seen {
         number: answer.number,
-        tag,
         rows: answer.rows,
+        tag: check::same(&tag, wanted),
         buffer: pattern::stayed(buffer, m, pattern::BUFFER),
         inputs: pattern::stayed(data, 0, pattern::DATA),
     }
@@ -119,8 +119,8 @@ fn opened(a: Attempt, tag: &[u8], data: &[u8], buffer: &mut [u8]) -> Seen
     );
     Seen {
         number: answer.number,
-        tag: [0u8; 16],
         rows: answer.rows,
+        tag: true,
         buffer: pattern::stayed(buffer, m, pattern::BUFFER),
         inputs: pattern::stayed(data, 0, pattern::DATA),
     }
@@ -130,9 +130,9 @@ fn refused_sealing(a: Attempt, data: &[u8], buffer: &mut [u8]) -> What
     requires { ⌜ a .message ≤ length (now buffer) ⌝ }
 {
     pattern::fill(buffer, pattern::BUFFER);
-    let mut seen = sealed(a, data, buffer);
+    let mut seen = sealed(a, &[0u8; 16], data, buffer);
     seen.buffer = pattern::stayed(buffer, 0, pattern::BUFFER);
-    seen.differs(a.number, &[0u8; 16], a.rows)
+    seen.differs(a.number, a.rows)
 }
 
 // A wrong tag leaves zeros, every other refusal the buffer as it was.
@@ -147,7 +147,7 @@ fn refused_opening(a: Attempt, tag: &[u8], data: &[u8], buffer: &mut [u8]) -> Wh
     } else {
         seen.buffer = pattern::stayed(buffer, 0, pattern::BUFFER);
     }
-    seen.differs(a.number, &[0u8; 16], a.rows)
+    seen.differs(a.number, a.rows)
 }
 
 // A line `seal SUITE KEY NONCE DATA MESSAGE NUMBER ROWS`.
@@ -193,10 +193,10 @@ fn limited_sealing(a: Attempt, sum: usize, tag: &[u8], data: &[u8], buffer: &mut
     requires { ⌜ a .message ≤ length (now buffer) ⌝ }
 {
     pattern::fill(buffer, pattern::BUFFER);
-    let mut seen = sealed(a, data, buffer);
+    let mut seen = sealed(a, tag, data, buffer);
     let m = a.message;
     seen.buffer = seen.buffer && pattern::checksum(&buffer[0..m]) == sum;
-    seen.differs(a.number, tag, a.rows)
+    seen.differs(a.number, a.rows)
 }
 
 // What sealing left in the buffer is opened, or refused with the same number.
@@ -205,7 +205,7 @@ fn limited_opening(a: Attempt, tag: &[u8], data: &[u8], buffer: &mut [u8]) -> Wh
 {
     let mut seen = opened(a, tag, data, buffer);
     seen.buffer = pattern::stayed(buffer, 0, pattern::BUFFER);
-    seen.differs(a.number, &[0u8; 16], a.rows)
+    seen.differs(a.number, a.rows)
 }
 
 // A line `SUITE KEY NONCE DATA MESSAGE NUMBER ROWS SUM TAG` of the limits.

@@ -3,11 +3,12 @@ ghost use mathlib.Core.Path.{_≡_};
 ghost use mathlib.Core.Bool.{true};
 ghost use Prim.Native.Nat.{_+_, _-_, _^_, _<_, min};
 
-// What a call answered, and whether its buffer, with the bytes around it, and its inputs are then as they should be.
+// What a call answered, and whether its tag (an opening gives none), its buffer, with the bytes around it, and its inputs are then as they
+// should be.
 pub struct Seen {
     pub number: u8,
-    pub tag: [u8; 16],
     pub rows: usize,
+    pub tag: bool,
     pub buffer: bool,
     pub inputs: bool,
 }
@@ -33,15 +34,14 @@ pub enum Call {
 
 impl Seen {
     // The first thing that differs.
-    pub fn differs(self, number: u8, tag: &[u8], rows: usize) -> What
-        ensures { λ r. ⌜ (r ≡ What.Nothing → (self .number ≡ number) × (self .tag ≡ now (tag .entry)) × (self .rows ≡ rows)
+    pub fn differs(self, number: u8, rows: usize) -> What
+        ensures { λ r. ⌜ (r ≡ What.Nothing → (self .number ≡ number) × (self .tag ≡ true) × (self .rows ≡ rows)
             × (self .buffer ≡ true) × (self .inputs ≡ true)) ⌝ }
     {
-        let given = self.tag;
         if self.number != number {
             return What::Number;
         }
-        if !check::same(&given, tag) {
+        if !self.tag {
             return What::Tag;
         }
         if self.rows != rows {

@@ -133,12 +133,12 @@ fn sealing(c: Case) -> What {
     let tag = answer.tag;
     let seen = Seen {
         number: answer.number,
-        tag,
         rows: answer.rows,
+        tag: check::same(&tag, part(s, cuts[TAG], cuts[PARTS])),
         buffer: same_rooms(&room, &wanted),
         inputs: same_bytes(s, &kept),
     };
-    seen.differs(0, part(s, cuts[TAG], cuts[PARTS]), c.rows)
+    seen.differs(0, c.rows)
 }
 
 fn opening(c: Case, number: u8, wanted: [u8; ROOM]) -> What {
@@ -159,12 +159,12 @@ fn opening(c: Case, number: u8, wanted: [u8; ROOM]) -> What {
     );
     let seen = Seen {
         number: answer.number,
-        tag: [0u8; 16],
         rows: answer.rows,
+        tag: true,
         buffer: same_rooms(&room, &wanted),
         inputs: same_bytes(s, &kept),
     };
-    seen.differs(number, &[0u8; 16], c.rows)
+    seen.differs(number, c.rows)
 }
 
 // What a buffer is to hold after a good opening.
