@@ -10,7 +10,7 @@ use Rattle.aes.specs.Field.{double, times, power, inverse}
 use Rattle.aes.specs.Substitution.{affine, sub}
 use Rattle.aes.specs.Round.{mixByte, mixColumns}
 use Rattle.deoxys_bc.specs.Tweakey.{lfsr2, lfsr3, roundConstant, constantBlock, expanded}
-use Rattle.modes.specs.Tweaks.{nonceTweak, keystreamTweak}
+use Rattle.tweaks.specs.Tweaks.{nonceTweak, keystreamTweak}
 use Rattle.modes.specs.Rows.{textRows}
 use Rattle.modes.specs.DeoxysI.{messageRows, tagRow, sealI}
 use Rattle.modes.specs.DeoxysII.{keystreamFrom, sealII}

@@ -109,32 +109,3 @@ pub fn open(suite: u8, key: &[u8], nonce: &[u8], ad: &[u8], buffer: &mut [u8], t
         rows,
     }
 }
-
-#[no_mangle]
-pub extern "C" fn deoxys_seal(
-    suite: u8,
-    key: &[u8],
-    nonce: &[u8],
-    ad: &[u8],
-    buffer: &mut [u8],
-) -> Sealed
-    ensures { λ r. ⌜ SealAllows suite (now (key .entry)) (now (nonce .entry)) (now (ad .entry)) (now (buffer .entry))
-        (record { answer = r; buffer = now (buffer .exit) }) ⌝ }
-{
-    seal(suite, key, nonce, ad, buffer)
-}
-
-#[no_mangle]
-pub extern "C" fn deoxys_open(
-    suite: u8,
-    key: &[u8],
-    nonce: &[u8],
-    ad: &[u8],
-    buffer: &mut [u8],
-    tag: &[u8],
-) -> Opened
-    ensures { λ r. ⌜ OpenAllows suite (now (key .entry)) (now (nonce .entry)) (now (ad .entry)) (now (buffer .entry)) (now (tag .entry))
-        (record { answer = r; buffer = now (buffer .exit) }) ⌝ }
-{
-    open(suite, key, nonce, ad, buffer, tag)
-}

@@ -14,7 +14,7 @@ use Rattle.octets.proofs.Xor.{⊕-length, ⊕-append}
 use Rattle.octets.proofs.Parts.{part-length, put-take, put-drop}
 use Rattle.deoxys_bc.specs.Cipher.{encipher}
 use Rattle.deoxys_bc.specs.declared.Subkeys.{Subkeys}
-use Rattle.modes.specs.Tweaks.{keystreamTweak}
+use Rattle.tweaks.specs.Tweaks.{keystreamTweak}
 use Rattle.modes.specs.DeoxysII.{keystreamFrom, given}
 
 pub record Streaming (k : Subkeys) (tag nonce : List ℕ) (n i : ℕ) (s : List ℕ) (m : ℕ) (out : List ℕ) (count : ℕ) : Type 0 where

@@ -1,4 +1,3 @@
-pub mod Packing
 pub mod Authenticating
 pub mod Checksums
 pub mod Message

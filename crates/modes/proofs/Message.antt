@@ -11,7 +11,7 @@ use Rattle.octets.specs.Octets.{_⊕_, zeroBlock}
 use Rattle.octets.proofs.Parts.{put-take, put-drop}
 use Rattle.deoxys_bc.specs.Cipher.{encipher}
 use Rattle.deoxys_bc.specs.declared.Subkeys.{Subkeys}
-use Rattle.modes.specs.Tweaks.{nonceTweak}
+use Rattle.tweaks.specs.Tweaks.{nonceTweak}
 use Rattle.modes.specs.Rows.{Row, enciphered}
 use Rattle.modes.specs.DeoxysI.{messageRows, textOf}
 use Rattle.modes.proofs.Authenticating.{partial-some}

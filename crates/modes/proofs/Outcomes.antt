@@ -10,7 +10,7 @@ use lib.ListN.{length, length-append}
 use Rattle.octets.specs.Octets.{pick, _⊕_, zeroBlock}
 use Rattle.deoxys_bc.specs.Cipher.{encipher}
 use Rattle.deoxys_bc.specs.declared.Subkeys.{Subkeys}
-use Rattle.modes.specs.Tweaks.{nonceTweak}
+use Rattle.tweaks.specs.Tweaks.{nonceTweak}
 use Rattle.modes.specs.Rows.{Row, dataRows, absorbed}
 use Rattle.modes.specs.DeoxysI.{checksum, cryptRows, crypted, sealI, openI}
 use Rattle.modes.specs.Answers.{direction, answered}

@@ -6,7 +6,7 @@ use lib.Dec.{eqb}
 use lib.ListN.{length, take, drop}
 use Rattle.octets.specs.Octets.{pick, _⊕_, zeroBlock, blockAt, padded}
 use Rattle.deoxys_bc.specs.declared.Subkeys.{Subkeys}
-use Rattle.modes.specs.Tweaks.{nonceTweak}
+use Rattle.tweaks.specs.Tweaks.{nonceTweak}
 use Rattle.modes.specs.Rows.{Row, enciphered, deciphered, Outcome, blocks, partialRow, dataRows, absorbed}
 
 -- n full blocks from number i on, kind 0, by a call; and the enciphered zero block, kind 4, for a partial one

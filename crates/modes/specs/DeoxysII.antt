@@ -4,7 +4,7 @@ use mathlib.Core.List.{List, [], _∷_, _++_}
 use Prim.Native.Nat.{ℕ, zero, suc, _+_}
 use Rattle.octets.specs.Octets.{_⊕_, zeroBlock}
 use Rattle.deoxys_bc.specs.declared.Subkeys.{Subkeys}
-use Rattle.modes.specs.Tweaks.{keystreamTweak}
+use Rattle.tweaks.specs.Tweaks.{keystreamTweak}
 use Rattle.modes.specs.Rows.{Row, enciphered, Outcome, blocks, authRows, dataRows, absorbed}
 
 -- Auth goes on over the message: byte 0 is 0x00, of a partial block 0x40

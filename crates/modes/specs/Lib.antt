@@ -1,4 +1,3 @@
-pub mod Tweaks
 pub mod Rows
 pub mod DeoxysI
 pub mod DeoxysII

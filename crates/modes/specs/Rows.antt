@@ -6,7 +6,7 @@ use lib.ListN.{length, drop}
 use Rattle.octets.specs.Octets.{_⊕_, blocksOf, blockAt, padded}
 use Rattle.deoxys_bc.specs.Cipher.{encipher, decipher}
 use Rattle.deoxys_bc.specs.declared.Subkeys.{Subkeys}
-use Rattle.modes.specs.Tweaks.{numbered}
+use Rattle.tweaks.specs.Tweaks.{numbered}
 
 pub record Row : Type 0 where
   pub tweak : List ℕ

@@ -11,7 +11,6 @@ use deoxys_bc::Subkeys;
 
 pub mod deoxys_i;
 pub mod deoxys_ii;
-mod tweaks;
 
 const TWEAK_AD: u8 = 0x20;
 

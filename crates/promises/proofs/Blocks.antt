@@ -13,7 +13,7 @@ use Rattle.octets.proofs.Tables.{spelt}
 use Rattle.octets.proofs.Parts.{part-block, part-bytes, padded-length}
 use Rattle.deoxys_bc.specs.declared.Subkeys.{Subkeys}
 use Rattle.deoxys_bc.proofs.Rounds.{KeyParts, encipher-block}
-use Rattle.modes.specs.Tweaks.{numbered, halves, paired, nonceTweak, topBitSet, keystreamTweak}
+use Rattle.tweaks.specs.Tweaks.{numbered, halves, paired, nonceTweak, topBitSet, keystreamTweak}
 use Rattle.modes.specs.Rows.{enciphered, partialRow, textRows, authRows, absorbed}
 use Rattle.modes.specs.DeoxysI.{padIn, checksumOf, checksum}
 use Rattle.promises.proofs.Keys.{nil-bytes, cons-bytes, append-bytes, zeros-bytes}

@@ -14,7 +14,7 @@ use Rattle.octets.proofs.Parts.{part-bytes, part-block}
 use Rattle.deoxys_bc.specs.Cipher.{encipher}
 use Rattle.deoxys_bc.specs.declared.Subkeys.{Subkeys}
 use Rattle.deoxys_bc.proofs.Rounds.{KeyParts, encipher-block, decipher-block, decipher-encipher, encipher-decipher}
-use Rattle.modes.specs.Tweaks.{nonceTweak}
+use Rattle.tweaks.specs.Tweaks.{nonceTweak}
 use Rattle.modes.specs.Rows.{Row, enciphered, deciphered, Outcome, dataRows, absorbed}
 use Rattle.modes.specs.DeoxysI.{messageRows, textOf, tagRow, crypted, sealI, openI}
 use Rattle.modes.proofs.Authenticating.{partial-some}

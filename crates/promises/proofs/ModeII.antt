@@ -11,7 +11,7 @@ use Rattle.octets.proofs.Xor.{⊕-length, ⊕-bytes, ⊕-back}
 use Rattle.deoxys_bc.specs.Cipher.{encipher}
 use Rattle.deoxys_bc.specs.declared.Subkeys.{Subkeys}
 use Rattle.deoxys_bc.proofs.Rounds.{KeyParts, encipher-block}
-use Rattle.modes.specs.Tweaks.{keystreamTweak}
+use Rattle.tweaks.specs.Tweaks.{keystreamTweak}
 use Rattle.modes.specs.Rows.{blocks}
 use Rattle.modes.specs.DeoxysII.{tagRow, keystreamFrom, keystreamRows, given, crypted, sealII, openII}
 use Rattle.promises.proofs.Keys.{nil-bytes, append-bytes}

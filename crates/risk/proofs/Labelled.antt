@@ -12,7 +12,7 @@ use borrow.Author.Tests.{lt-ltb, le-ltb, le-leb, lt-leb}
 use Rattle.octets.specs.Octets.{pick, blocksOf}
 use Rattle.deoxys_bc.specs.Tweakey.{expanded}
 use Rattle.deoxys_bc.specs.declared.Subkeys.{Subkeys}
-use Rattle.modes.specs.Tweaks.{numbered, nonceTweak, keystreamTweak}
+use Rattle.tweaks.specs.Tweaks.{numbered, nonceTweak, keystreamTweak}
 use Rattle.modes.specs.Rows.{Row, enciphered, Outcome, partialRow, textRows, authRows}
 use Rattle.risk.specs.declared.Label.{Label}
 use Rattle.risk.specs.Labels.{blockLabels, textLabels, tagLabel, labels}

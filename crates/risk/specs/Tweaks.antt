@@ -4,7 +4,7 @@ use mathlib.Core.List.{List, _∷_}
 use Prim.Native.Nat.{ℕ}
 use lib.Dec.{eqb}
 use Rattle.octets.specs.Octets.{pick}
-use Rattle.modes.specs.Tweaks.{numbered, nonceTweak, keystreamTweak}
+use Rattle.tweaks.specs.Tweaks.{numbered, nonceTweak, keystreamTweak}
 use Rattle.deoxys.specs.Suites.{isDeoxysI}
 use Rattle.risk.specs.declared.Label.{Label}
 

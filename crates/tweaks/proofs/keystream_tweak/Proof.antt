@@ -1,14 +1,14 @@
--- `modes::tweaks::keystream_tweak` meets its contract: the top bit by a test over the bytes, then one XOR.
+-- `tweaks::keystream_tweak` meets its contract: the top bit by a test over the bytes, then one XOR.
 -- Assumes nothing.
 use mathlib.Core.Path.{_≡_}
 use native.Mathlib.Omega.{arith}
 use lib.ListN.{length}
 use borrow.Author.Needs.{needs}
 use Rattle.octets.proofs.Tables.{byte}
-use Rattle.modes.specs.Tweaks.{numbered, keystreamTweak}
-use Rattle.modes.proofs.Packing.{top-set}
-use Rattle.modes.proofs.tweaks.keystream_tweak.Statement.{statement}
-use Rattle.modes.proofs.tweaks.keystream_tweak.Tie as tie
+use Rattle.tweaks.specs.Tweaks.{numbered, keystreamTweak}
+use Rattle.tweaks.proofs.Packing.{top-set}
+use Rattle.tweaks.proofs.keystream_tweak.Statement.{statement}
+use Rattle.tweaks.proofs.keystream_tweak.Tie as tie
 
 array-read-top : tie.Need-array-read-top
 array-read-top c = search needs

@@ -1,4 +1,4 @@
--- `modes::tweaks::prefixed` meets its contract: after i stores the first byte and i bytes of the nonce are in place.
+-- `tweaks::prefixed` meets its contract: after i stores the first byte and i bytes of the nonce are in place.
 -- Assumes nothing.
 use mathlib.Core.Path.{_≡_, refl}
 use mathlib.Core.List.{_∷_}
@@ -8,8 +8,8 @@ use native.Mathlib.Omega.{arith}
 use lib.ListN.{replicate}
 use borrow.Author.Needs.{needs}
 use Rattle.octets.proofs.Parts.{upto, upto-turn, upto-end}
-use Rattle.modes.proofs.tweaks.prefixed.Statement.{statement}
-use Rattle.modes.proofs.tweaks.prefixed.Tie as tie
+use Rattle.tweaks.proofs.prefixed.Statement.{statement}
+use Rattle.tweaks.proofs.prefixed.Tie as tie
 
 abbrev Inv-loop : tie.InvT-loop
 Inv-loop first nonce out₀ i₀ out i = (out ≡ upto (first ∷ nonce) (first ∷ replicate 15 0) (i + 1)) × (i ≤ 15)

@@ -1,11 +1,11 @@
--- `modes::tweaks::numbered` meets its contract: the bytes of the number are the definition's, by computation.
+-- `tweaks::numbered` meets its contract: the bytes of the number are the definition's, by computation.
 -- Assumes nothing.
 use native.Mathlib.Nat.{div-one}
 use borrow.Author.Needs.{needs}
 use Rattle.octets.specs.Octets.{bigEndian}
-use Rattle.modes.specs.Tweaks.{numbered}
-use Rattle.modes.proofs.tweaks.numbered.Statement.{statement}
-use Rattle.modes.proofs.tweaks.numbered.Tie as tie
+use Rattle.tweaks.specs.Tweaks.{numbered}
+use Rattle.tweaks.proofs.numbered.Statement.{statement}
+use Rattle.tweaks.proofs.numbered.Tie as tie
 
 cast-b8 : tie.Need-cast-b8
 cast-b8 c = search needs

@@ -1,4 +1,4 @@
--- `modes::tweaks::nonce_tweak` meets its contract: after j stores j bytes are packed and one half byte is left over.
+-- `tweaks::nonce_tweak` meets its contract: after j stores j bytes are packed and one half byte is left over.
 -- Assumes nothing.
 use mathlib.Core.Path.{_≡_, refl, sym}
 use Prim.Native.Nat.{_-_, _≤_, _<_}
@@ -10,10 +10,10 @@ use borrow.Author.Needs.{needs}
 use Rattle.octets.specs.Octets.{table}
 use Rattle.octets.proofs.Parts.{upto, upto-turn}
 use Rattle.octets.proofs.Tables.{table-at, table-length}
-use Rattle.modes.specs.Tweaks.{numbered}
-use Rattle.modes.proofs.Packing.{numbered-length, packed, leftOver, packed-is}
-use Rattle.modes.proofs.tweaks.nonce_tweak.Statement.{statement}
-use Rattle.modes.proofs.tweaks.nonce_tweak.Tie as tie
+use Rattle.tweaks.specs.Tweaks.{numbered}
+use Rattle.tweaks.proofs.Packing.{numbered-length, packed, leftOver, packed-is}
+use Rattle.tweaks.proofs.nonce_tweak.Statement.{statement}
+use Rattle.tweaks.proofs.nonce_tweak.Tie as tie
 
 abbrev Inv-loop : tie.InvT-loop
 Inv-loop kind nonce i out₀ half₀ j₀ out half j =

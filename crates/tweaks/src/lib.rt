@@ -3,7 +3,7 @@ ghost use mathlib.Core.Path.{_≡_};
 ghost use mathlib.Core.List.{_∷_};
 ghost use Prim.Native.Nat.{_<_};
 ghost use lib.ListN.{length};
-ghost use Rattle.modes.specs.Tweaks.{numbered, nonceTweak, keystreamTweak};
+ghost use Rattle.tweaks.specs.Tweaks.{numbered, nonceTweak, keystreamTweak};
 
 // A kind in byte 0, and a block number in bytes 8 to 15.
 pub fn numbered(kind: u8, i: usize) -> [u8; 16]

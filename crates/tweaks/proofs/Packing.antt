@@ -9,7 +9,7 @@ use lib.ListN.{length, getD, set}
 use Rattle.octets.specs.Octets.{table, bigEndian}
 use Rattle.octets.proofs.Tables.{agreed, spelt}
 use Rattle.octets.proofs.Parts.{upto}
-use Rattle.modes.specs.Tweaks.{numbered, nonceTweak, topBitSet}
+use Rattle.tweaks.specs.Tweaks.{numbered, nonceTweak, topBitSet}
 
 -- Deoxys-I: what is left of the byte before byte j, the kind before byte 0
 abbrev pub leftOver : ℕ → List ℕ → ℕ → ℕ
