@@ -13,7 +13,7 @@ use lib.Pow.{pow-pos, split}
 use Rattle.octets.specs.Octets.{pick}
 use Rattle.octets.proofs.Xor.{odd-lt, xor-odd, xor-swap}
 use Rattle.octets.proofs.Tables.{both-left, both-right}
-use Rattle.aes.specs.Field.{double, productOf, times}
+use Rattle.field.specs.Field.{double, productOf, times}
 
 -- ---- doubling and products keep XOR, and give bytes
 

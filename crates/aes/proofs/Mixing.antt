@@ -10,7 +10,7 @@ use lib.ListN.{length, getD}
 use Rattle.octets.specs.Octets.{Bytes, Block, _⊕_, table, eachByte}
 use Rattle.octets.proofs.Xor.{⊕-at}
 use Rattle.octets.proofs.Tables.{table-block, table-eq, spelt}
-use Rattle.aes.specs.Field.{double, times}
+use Rattle.field.specs.Field.{double, times}
 use Rattle.aes.specs.Round.{byteAt, mixByte, unmixByte, byColumns, mixColumns, invMixColumns}
 use Rattle.aes.proofs.Linear.{times-lt, Additive, first, second, third, fourth, sum, product, doubled, after, same}
 

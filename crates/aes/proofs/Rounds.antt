@@ -9,9 +9,9 @@ use lib.ListN.{length, getD}
 use Rattle.octets.specs.Octets.{Bytes, Block, _⊕_, table, eachByte}
 use Rattle.octets.proofs.Xor.{⊕-block, ⊕-back}
 use Rattle.octets.proofs.Tables.{table-block, table-at, table-eq, spelt, each-block, each-undone}
-use Rattle.aes.specs.Substitution.{sub, invSub}
+use Rattle.field.specs.Substitution.{sub, invSub}
 use Rattle.aes.specs.Round.{subBytes, invSubBytes, shiftRows, invShiftRows, mixColumns, invMixColumns, round, invRound, equivInvRound}
-use Rattle.aes.proofs.Substitution.{sub-lt, invSub-lt, sub-invSub, invSub-sub}
+use Rattle.field.proofs.Substitution.{sub-lt, invSub-lt, sub-invSub, invSub-sub}
 use Rattle.aes.proofs.Mixing.{invMix-mix, mix-invMix, invMix-xor, mix-block, invMix-block}
 
 -- ---- substitution, also by a table of its 256 values

@@ -1,3 +1,1 @@
-pub mod Field
-pub mod Substitution
 pub mod Round

@@ -5,8 +5,8 @@ use Prim.Native.Nat.{ℕ, _+_, _-_, _*_, _/_, _%_}
 use lib.Bits.{bitXor}
 use lib.ListN.{getD}
 use Rattle.octets.specs.Octets.{_⊕_, table, eachByte}
-use Rattle.aes.specs.Field.{times}
-use Rattle.aes.specs.Substitution.{sub, invSub}
+use Rattle.field.specs.Field.{times}
+use Rattle.field.specs.Substitution.{sub, invSub}
 
 -- 5.1.1 SubBytes and 5.3.2 InvSubBytes
 unfoldable pub subBytes : List ℕ → List ℕ

@@ -3,19 +3,9 @@ ghost use mathlib.Core.Path.{_≡_};
 ghost use Prim.Native.Nat.{_+_, _*_, _/_, _%_, _<_};
 ghost use lib.ListN.{getD};
 ghost use Rattle.octets.specs.Octets.{table, eachByte};
-ghost use Rattle.aes.specs.Field.{double};
-ghost use Rattle.aes.specs.Substitution.{sub, invSub};
+ghost use Rattle.field.specs.Field.{double};
+ghost use Rattle.field.specs.Substitution.{sub, invSub};
 ghost use Rattle.aes.specs.Round.{byteAt, shiftRows, invShiftRows, mixByte, mixColumns, invMixColumns, round, equivInvRound};
-
-pub mod inv_sbox;
-pub mod sbox;
-
-// xtime: the bits move up by one place, and the bit that falls out counts as 0x1B.
-pub fn double(x: u8) -> u8
-    ensures { λ r. ⌜ r ≡ double x ⌝ }
-{
-    if x < 0x80 { x << 1 } else { (x << 1) ^ 0x1b }
-}
 
 // Each byte replaced by its entry of a table: SubBytes by the S-box, InvSubBytes by the inverse one.
 fn substitute(entries: &[u8; 256], block: [u8; 16]) -> [u8; 16]
@@ -56,7 +46,7 @@ fn inv_shift_rows(block: [u8; 16]) -> [u8; 16]
 fn mix_byte(a: u8, b: u8, c: u8, d: u8) -> u8
     ensures { λ r. ⌜ r ≡ mixByte a b c d ⌝ }
 {
-    double(a ^ b) ^ b ^ c ^ d
+    field::double(a ^ b) ^ b ^ c ^ d
 }
 
 // Byte i is the one so many places below it in its column, around. Whole blocks are turned and then mixed place by place, which
@@ -90,7 +80,7 @@ fn double_bytes(block: [u8; 16]) -> [u8; 16]
 {
     let mut out = [0u8; 16];
     for i in 0..16 {
-        out[i] = double(block[i]);
+        out[i] = field::double(block[i]);
     }
     out
 }

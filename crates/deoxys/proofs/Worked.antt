@@ -6,8 +6,8 @@ use mathlib.Core.List.{List, [], _∷_, _++_, map}
 use Prim.Native.Nat.{ℕ}
 use lib.ListN.{length, take, drop, replicate}
 use Rattle.octets.specs.Octets.{_⊕_, table, eachByte, zeroBlock, bigEndian}
-use Rattle.aes.specs.Field.{double, times, power, inverse}
-use Rattle.aes.specs.Substitution.{affine, sub}
+use Rattle.field.specs.Field.{double, times, power, inverse}
+use Rattle.field.specs.Substitution.{affine, sub}
 use Rattle.aes.specs.Round.{mixByte, mixColumns}
 use Rattle.deoxys_bc.specs.Tweakey.{lfsr2, lfsr3, roundConstant, constantBlock, expanded}
 use Rattle.tweaks.specs.Tweaks.{nonceTweak, keystreamTweak}

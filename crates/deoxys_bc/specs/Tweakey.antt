@@ -6,7 +6,7 @@ use lib.Bits.{bitXor}
 use lib.Dec.{eqb}
 use lib.ListN.{length, getD, take, drop, replicate}
 use Rattle.octets.specs.Octets.{pick, bit, _⊕_, table, eachByte}
-use Rattle.aes.specs.Field.{double}
+use Rattle.field.specs.Field.{double}
 use Rattle.deoxys_bc.specs.declared.Subkeys.{Subkeys}
 
 -- H: new byte i is old byte H[i]

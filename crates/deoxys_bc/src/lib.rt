@@ -39,7 +39,7 @@ pub fn encipher(k: Subkeys, tweak: [u8; 16], block: [u8; 16], count: Count) -> C
     requires { ⌜ (k .rounds ≤ 16) × (count .rows + 1 < 2 ^ 64) ⌝ }
     ensures { λ r. ⌜ r ≡ record { block = encipher k tweak block; count = record { rows = count .rows + 1 } } ⌝ }
 {
-    let sbox = aes::sbox::entries();
+    let sbox = field::sbox::entries();
     let keys = tweakey::key_schedule(k, tweak);
     let rounds = k.rounds;
     let mut state = octets::xor_block(block, octets::read_block(&keys, 0));
@@ -59,7 +59,7 @@ pub fn decipher(k: Subkeys, tweak: [u8; 16], block: [u8; 16], count: Count) -> C
     requires { ⌜ (k .rounds ≤ 16) × (count .rows + 1 < 2 ^ 64) ⌝ }
     ensures { λ r. ⌜ r ≡ record { block = decipher k tweak block; count = record { rows = count .rows + 1 } } ⌝ }
 {
-    let inv_sbox = aes::inv_sbox::entries();
+    let inv_sbox = field::inv_sbox::entries();
     let keys = tweakey::key_schedule(k, tweak);
     let mut i = k.rounds;
     let mut state = aes::inv_mix_columns(octets::xor_block(

@@ -3,7 +3,7 @@
 use borrow.Author.Needs.{needs}
 use Rattle.octets.specs.Octets.{Bytes}
 use Rattle.octets.proofs.Tables.{byte}
-use Rattle.aes.specs.Substitution.{sub}
+use Rattle.field.specs.Substitution.{sub}
 use Rattle.aes.specs.Round.{subBytes, round}
 use Rattle.aes.proofs.Rounds.{by-table}
 use Rattle.aes.proofs.cipher_round.Statement.{statement}

@@ -6,7 +6,7 @@ use lib.ListN.{getD}
 use borrow.Author.Needs.{needs}
 use Rattle.octets.specs.Octets.{eachByte}
 use Rattle.octets.proofs.Tables.{Filled, filled-none, filled-more, filled-all}
-use Rattle.aes.specs.Field.{double}
+use Rattle.field.specs.Field.{double}
 use Rattle.aes.proofs.double_bytes.Statement.{statement}
 use Rattle.aes.proofs.double_bytes.Tie as tie
 

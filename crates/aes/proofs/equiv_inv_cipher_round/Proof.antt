@@ -3,7 +3,7 @@
 use borrow.Author.Needs.{needs}
 use Rattle.octets.specs.Octets.{Bytes}
 use Rattle.octets.proofs.Tables.{byte}
-use Rattle.aes.specs.Substitution.{invSub}
+use Rattle.field.specs.Substitution.{invSub}
 use Rattle.aes.specs.Round.{invSubBytes, equivInvRound}
 use Rattle.aes.proofs.Rounds.{by-table}
 use Rattle.aes.proofs.equiv_inv_cipher_round.Statement.{statement}

@@ -8,7 +8,7 @@ use lib.ListN.{length}
 use borrow.Author.Needs.{needs}
 use Rattle.octets.proofs.Tables.{byte, table-tested}
 use Rattle.octets.specs.Octets.{Block, _⊕_}
-use Rattle.aes.specs.Field.{double}
+use Rattle.field.specs.Field.{double}
 use Rattle.deoxys_bc.specs.Tweakey.{places, tk3, tk2, roundConstant, constantBlock, flat}
 use Rattle.deoxys_bc.proofs.Flat.{flat-turn, flat-none}
 use Rattle.deoxys_bc.proofs.Tweakeys.{tk3-step, tk2-step, part-length}

@@ -5,8 +5,8 @@ use Prim.Native.Nat.{ℕ, _<_}
 use lib.Dec.{T, ltb, ltb→lt}
 use lib.ListN.{getD}
 use Rattle.octets.proofs.Tables.{below, agreed}
-use Rattle.aes.specs.Substitution.{affine, unaffine, sub, invSub}
-use Rattle.aes.proofs.Inverses.{inverses, inverse-at, inverses-lt}
+use Rattle.field.specs.Substitution.{affine, unaffine, sub, invSub}
+use Rattle.field.proofs.Inverses.{inverses, inverse-at, inverses-lt}
 
 -- every byte's image is below 256, by a test
 tested : (f : ℕ → ℕ) → T (Rattle.octets.proofs.Tables.allBelow (λ x. ltb (f x) 256) 256) → (x : ℕ) → x < 256 → f x < 256

@@ -2,7 +2,7 @@
 -- Assumes nothing.
 use Prim.Native.Nat.{ℕ, zero, suc, _+_, _*_, _%_}
 use Rattle.octets.specs.Octets.{bit}
-use Rattle.aes.specs.Field.{inverse}
+use Rattle.field.specs.Field.{inverse}
 
 -- the n bits f i, f (i + 1), .. as a number, f i the lowest
 abbrev pub numberOf : (ℕ → ℕ) → ℕ → ℕ → ℕ

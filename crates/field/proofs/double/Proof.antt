@@ -1,4 +1,4 @@
--- `aes::double` meets its contract: both branches at every byte, by one test.
+-- `field::double` meets its contract: both branches at every byte, by one test.
 -- Assumes nothing.
 use mathlib.Core.Path.{_≡_}
 use Prim.Native.Nat.{ℕ, _*_, _%_, _<_}
@@ -8,9 +8,9 @@ use borrow.Author.Tests.{lt-ltb, le-ltb}
 use borrow.Author.Needs.{needs}
 use Rattle.octets.specs.Octets.{pick}
 use Rattle.octets.proofs.Tables.{agreed}
-use Rattle.aes.specs.Field.{double}
-use Rattle.aes.proofs.double.Statement.{statement}
-use Rattle.aes.proofs.double.Tie as tie
+use Rattle.field.specs.Field.{double}
+use Rattle.field.proofs.double.Statement.{statement}
+use Rattle.field.proofs.double.Tie as tie
 
 by-branch : (x : ℕ) → x < 256 → pick (ltb x 128) (x * 2 % 256) (bitXor (x * 2 % 256) 27) ≡ double x
 unfolding double

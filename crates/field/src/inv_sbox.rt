@@ -2,7 +2,7 @@
 // in each function that indexes it.
 ghost use mathlib.Core.Path.{_≡_};
 ghost use Rattle.octets.specs.Octets.{table};
-ghost use Rattle.aes.specs.Substitution.{invSub};
+ghost use Rattle.field.specs.Substitution.{invSub};
 
 const INV_SBOX: [u8; 256] = [
     0x52,

@@ -9,7 +9,7 @@ use lib.ListN.{getD}
 use borrow.Author.Tests.{ne-eqb}
 use Rattle.octets.specs.Octets.{pick}
 use Rattle.octets.proofs.Tables.{below, agreed}
-use Rattle.aes.specs.Field.{double, times, power, inverse}
+use Rattle.field.specs.Field.{double, times, power, inverse}
 
 unfoldable pub inverses : List ℕ
 inverses =

@@ -1,0 +1,13 @@
+// The field of FIPS 197, section 4, as far as the code needs it: doubling, and the two substitution tables.
+ghost use mathlib.Core.Path.{_≡_};
+ghost use Rattle.field.specs.Field.{double};
+
+pub mod inv_sbox;
+pub mod sbox;
+
+// xtime: the bits move up by one place, and the bit that falls out counts as 0x1B.
+pub fn double(x: u8) -> u8
+    ensures { λ r. ⌜ r ≡ double x ⌝ }
+{
+    if x < 0x80 { x << 1 } else { (x << 1) ^ 0x1b }
+}
