@@ -8,8 +8,8 @@ use lib.ListN.{length, replicate}
 use borrow.Author.Tests.{eq-eqb, ne-eqb, le-leb, lt-leb}
 use Rattle.octets.specs.Octets.{same, zeroBlock}
 use Rattle.deoxys_bc.specs.Tweakey.{expanded}
-use Rattle.modes.specs.DeoxysI.{sealI, openI}
-use Rattle.modes.specs.DeoxysII.{sealII, openII}
+use Rattle.deoxys_i.specs.DeoxysI.{sealI, openI}
+use Rattle.deoxys_ii.specs.DeoxysII.{sealII, openII}
 use Rattle.deoxys.specs.Suites.{refusal}
 use Rattle.deoxys.specs.Entry.{Sealing, Opening, sealed, opened, sealing, opening}
 

@@ -12,8 +12,8 @@ use Rattle.aes.specs.Round.{mixByte, mixColumns}
 use Rattle.deoxys_bc.specs.Tweakey.{lfsr2, lfsr3, roundConstant, constantBlock, expanded}
 use Rattle.tweaks.specs.Tweaks.{nonceTweak, keystreamTweak}
 use Rattle.modes.specs.Rows.{textRows}
-use Rattle.modes.specs.DeoxysI.{messageRows, tagRow, sealI}
-use Rattle.modes.specs.DeoxysII.{keystreamFrom, sealII}
+use Rattle.deoxys_i.specs.DeoxysI.{messageRows, tagRow, sealI}
+use Rattle.deoxys_ii.specs.DeoxysII.{keystreamFrom, sealII}
 use Rattle.deoxys.specs.Suites.{keyLength, nonceLength}
 use Rattle.deoxys.specs.Entry.{sealed}
 

@@ -8,8 +8,8 @@ use lib.ListN.{length, replicate}
 use Rattle.octets.specs.Octets.{pick, zeroBlock, same}
 use Rattle.deoxys_bc.specs.Tweakey.{expanded}
 use Rattle.modes.specs.Rows.{Outcome}
-use Rattle.modes.specs.DeoxysI.{sealI, openI}
-use Rattle.modes.specs.DeoxysII.{sealII, openII}
+use Rattle.deoxys_i.specs.DeoxysI.{sealI, openI}
+use Rattle.deoxys_ii.specs.DeoxysII.{sealII, openII}
 use Rattle.deoxys.specs.Suites.{isDeoxysI, refusal}
 use Rattle.deoxys.specs.declared.Sealed.{Sealed}
 use Rattle.deoxys.specs.declared.Opened.{Opened}

@@ -1,4 +1,2 @@
 pub mod Rows
-pub mod DeoxysI
-pub mod DeoxysII
 pub mod Answers

@@ -9,9 +9,6 @@ ghost use Rattle.modes.specs.Rows.{authRows, dataRows, absorbed};
 use deoxys_bc::Count;
 use deoxys_bc::Subkeys;
 
-pub mod deoxys_i;
-pub mod deoxys_ii;
-
 const TWEAK_AD: u8 = 0x20;
 
 const TWEAK_AD_LAST: u8 = 0x60;
@@ -46,7 +43,7 @@ fn absorb(k: Subkeys, tweak: [u8; 16], block: [u8; 16], tally: Tally) -> Tally
 }
 
 // Auth over a text, full blocks with one tweak byte 0 and a partial one with another.
-fn authenticate(k: Subkeys, full: u8, partial: u8, text: &[u8], tally: Tally) -> Tally
+pub fn authenticate(k: Subkeys, full: u8, partial: u8, text: &[u8], tally: Tally) -> Tally
     requires { ⌜ (k .rounds ≤ 16) × (tally .count .rows + length (now text) / 16 + 2 < 2 ^ 64) ⌝ }
     ensures { λ r. ⌜ r ≡ record {
       sum = absorbed (tally .sum) (authRows k full partial (now (text .entry)));
@@ -76,7 +73,7 @@ fn authenticate(k: Subkeys, full: u8, partial: u8, text: &[u8], tally: Tally) ->
 }
 
 // The crate's `compute_ad_tag`: Auth over the associated data, and the first calls that are counted.
-fn compute_ad_tag(k: Subkeys, ad: &[u8]) -> Tally
+pub fn compute_ad_tag(k: Subkeys, ad: &[u8]) -> Tally
     requires { ⌜ (k .rounds ≤ 16) × (length (now ad) / 16 + 2 < 2 ^ 64) ⌝ }
     ensures { λ r. ⌜ r ≡ record {
       sum = absorbed zeroBlock (dataRows k (now (ad .entry)));

@@ -15,7 +15,7 @@ use Rattle.deoxys_bc.specs.declared.Subkeys.{Subkeys}
 use Rattle.deoxys_bc.proofs.Rounds.{KeyParts, encipher-block}
 use Rattle.tweaks.specs.Tweaks.{numbered, halves, paired, nonceTweak, topBitSet, keystreamTweak}
 use Rattle.modes.specs.Rows.{enciphered, partialRow, textRows, authRows, absorbed}
-use Rattle.modes.specs.DeoxysI.{padIn, checksumOf, checksum}
+use Rattle.deoxys_i.specs.DeoxysI.{padIn, checksumOf, checksum}
 use Rattle.promises.proofs.Keys.{nil-bytes, cons-bytes, append-bytes, zeros-bytes}
 
 rest : {x : ℕ} {s : List ℕ} → Bytes (x ∷ s) → Bytes s

@@ -16,7 +16,7 @@ use Rattle.deoxys_bc.specs.declared.Subkeys.{Subkeys}
 use Rattle.deoxys_bc.proofs.Rounds.{KeyParts, encipher-block, decipher-block, decipher-encipher, encipher-decipher}
 use Rattle.tweaks.specs.Tweaks.{nonceTweak}
 use Rattle.modes.specs.Rows.{Row, enciphered, deciphered, Outcome, dataRows, absorbed}
-use Rattle.modes.specs.DeoxysI.{messageRows, textOf, tagRow, crypted, sealI, openI}
+use Rattle.deoxys_i.specs.DeoxysI.{messageRows, textOf, tagRow, crypted, sealI, openI}
 use Rattle.modes.proofs.Authenticating.{partial-some}
 use Rattle.promises.proofs.Keys.{append-bytes}
 use Rattle.promises.proofs.Blocks.{zero-block, nonce-block, auth-block, checksum-block}

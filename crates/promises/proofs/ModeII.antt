@@ -13,7 +13,7 @@ use Rattle.deoxys_bc.specs.declared.Subkeys.{Subkeys}
 use Rattle.deoxys_bc.proofs.Rounds.{KeyParts, encipher-block}
 use Rattle.tweaks.specs.Tweaks.{keystreamTweak}
 use Rattle.modes.specs.Rows.{blocks}
-use Rattle.modes.specs.DeoxysII.{tagRow, keystreamFrom, keystreamRows, given, crypted, sealII, openII}
+use Rattle.deoxys_ii.specs.DeoxysII.{tagRow, keystreamFrom, keystreamRows, given, crypted, sealII, openII}
 use Rattle.promises.proofs.Keys.{nil-bytes, append-bytes}
 use Rattle.promises.proofs.Blocks.{zero-block, prefix-block, keystream-block, auth-block}
 use Rattle.promises.proofs.ModeI.{Like, Mode}

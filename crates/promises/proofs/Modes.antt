@@ -12,9 +12,11 @@ use Rattle.octets.specs.Octets.{Bytes, Block, pick}
 use Rattle.deoxys_bc.specs.Tweakey.{expanded}
 use Rattle.deoxys_bc.specs.declared.Subkeys.{Subkeys}
 use Rattle.modes.specs.Rows.{Row, deciphered, Outcome, blocks}
-use Rattle.modes.specs.DeoxysI as I
-use Rattle.modes.specs.DeoxysII as II
-use Rattle.modes.proofs.Counts.{auth-count, crypt-count, keystream-count}
+use Rattle.deoxys_i.specs.DeoxysI as I
+use Rattle.deoxys_ii.specs.DeoxysII as II
+use Rattle.modes.proofs.Counts.{auth-count}
+use Rattle.deoxys_i.proofs.Counts.{crypt-count}
+use Rattle.deoxys_ii.proofs.Counts.{keystream-count}
 use Rattle.deoxys.specs.Entry.{sealed, opened}
 use Rattle.deoxys.proofs.Refusals.{Good, key-is, nonce-i, nonce-ii}
 use Rattle.promises.specs.Statements.{Given, rowsFor}

@@ -17,8 +17,8 @@ use Rattle.modes.specs.Rows.{Row, enciphered, Outcome, partialRow, textRows, au
 use Rattle.risk.specs.declared.Label.{Label}
 use Rattle.risk.specs.Labels.{blockLabels, textLabels, tagLabel, labels}
 use Rattle.risk.specs.Tweaks.{tweakOf}
-use Rattle.modes.specs.DeoxysI as I
-use Rattle.modes.specs.DeoxysII as II
+use Rattle.deoxys_i.specs.DeoxysI as I
+use Rattle.deoxys_ii.specs.DeoxysII as II
 
 abbrev tweaks : List Row → List (List ℕ)
 tweaks rows = map (λ (r : Row). r .tweak) rows

@@ -1,0 +1,4 @@
+pub mod Checksums
+pub mod Message
+pub mod Counts
+pub mod Outcomes

@@ -1,0 +1,2 @@
+pub mod DeoxysI
+pub mod Direction
