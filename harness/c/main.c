@@ -1,6 +1,6 @@
-/* Calls the archive from C through include/deoxys.h: seals, opens, opens a
+/* Calls the archive from C through include/calibration.h: seals, opens, opens a
  * forgery, and is refused. Exit status 1 if anything isn't as the header says. */
-#include "deoxys.h"
+#include "calibration.h"
 
 #include <stdio.h>
 #include <string.h>
