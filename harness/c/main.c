@@ -1,6 +1,7 @@
-/* Calls the archive from C through include/deoxys.h: seals, opens, opens a
- * forgery, and is refused. Exit status 1 if anything isn't as the header says. */
-#include "deoxys.h"
+/* Calls the archive from C through include/calibration.h: seals, opens, opens a
+ * forgery, and is refused, with NULL for empty byte strings too. Exit status 1
+ * if anything isn't as the header says. */
+#include "calibration.h"
 
 #include <stdio.h>
 #include <string.h>
@@ -96,12 +97,19 @@ static void expect_surroundings(const struct memory *memory, const struct inputs
     expect(memcmp(inputs, &fresh, sizeof fresh) == 0, "a read-only input changed");
 }
 
+/* An empty byte string as C programs often have it. */
+static const uint8_t *null_if_empty(const uint8_t *bytes, size_t count)
+{
+    return count == 0 ? NULL : bytes;
+}
+
 static struct deoxys_sealed seal_message(const struct suite *suite, struct memory *memory)
 {
     struct inputs in = fresh_inputs();
     struct deoxys_sealed sealed =
-        deoxys_seal(suite->number, in.key, suite->key_length, in.nonce, suite->nonce_length,
-                    in.data, sizeof in.data, memory->message, MESSAGE_LENGTH);
+        deoxys_seal(suite->number, null_if_empty(in.key, suite->key_length), suite->key_length,
+                    null_if_empty(in.nonce, suite->nonce_length), suite->nonce_length, in.data,
+                    sizeof in.data, memory->message, MESSAGE_LENGTH);
     expect_surroundings(memory, &in);
     return sealed;
 }
@@ -111,8 +119,10 @@ static struct deoxys_opened open_message(const struct suite *suite, struct memor
 {
     struct inputs in = fresh_inputs();
     struct deoxys_opened opened =
-        deoxys_open(suite->number, in.key, suite->key_length, in.nonce, suite->nonce_length,
-                    in.data, sizeof in.data, memory->message, MESSAGE_LENGTH, tag, tag_length);
+        deoxys_open(suite->number, null_if_empty(in.key, suite->key_length), suite->key_length,
+                    null_if_empty(in.nonce, suite->nonce_length), suite->nonce_length, in.data,
+                    sizeof in.data, memory->message, MESSAGE_LENGTH,
+                    null_if_empty(tag, tag_length), tag_length);
     expect_surroundings(memory, &in);
     return opened;
 }
@@ -160,6 +170,42 @@ static void open_forgeries(const struct suite *suite)
     expect(all_zero, "bytes are left after a forgery");
 }
 
+static struct deoxys_sealed seal_nothing(const struct suite *suite, const uint8_t *data,
+                                         uint8_t *buffer)
+{
+    struct inputs in = fresh_inputs();
+    return deoxys_seal(suite->number, in.key, suite->key_length, in.nonce, suite->nonce_length,
+                       data, 0, buffer, 0);
+}
+
+static struct deoxys_opened open_nothing(const struct suite *suite, const uint8_t *data,
+                                         uint8_t *buffer, const uint8_t *tag)
+{
+    struct inputs in = fresh_inputs();
+    return deoxys_open(suite->number, in.key, suite->key_length, in.nonce, suite->nonce_length,
+                       data, 0, buffer, 0, tag, DEOXYS_TAG_LENGTH);
+}
+
+static void seal_and_open_null(const struct suite *suite)
+{
+    uint8_t data[1] = {0}, buffer[1] = {0};
+    struct deoxys_sealed sealed = seal_nothing(suite, NULL, NULL);
+    struct deoxys_sealed not_null = seal_nothing(suite, data, buffer);
+    struct deoxys_opened opened = open_nothing(suite, NULL, NULL, sealed.tag);
+    expect(sealed.number == DEOXYS_DONE, "sealing NULL wasn't done");
+    expect(sealed.rows == 1, "rows of sealing NULL");
+    expect(memcmp(sealed.tag, not_null.tag, sizeof sealed.tag) == 0, "NULL has another tag");
+    expect(opened.number == DEOXYS_DONE, "opening NULL wasn't done");
+    expect(opened.rows == 1, "rows of opening NULL");
+
+    sealed.tag[0] ^= 1;
+    struct deoxys_opened forged = open_nothing(suite, NULL, NULL, sealed.tag);
+    expect(forged.number == DEOXYS_WRONG_TAG, "a forgery of NULL wasn't refused with 7");
+    expect(forged.rows == 1, "rows of a forgery of NULL");
+    printf("  data and message NULL: sealed %d, opened %d, forged %d, %zu row\n", sealed.number,
+           opened.number, forged.number, sealed.rows);
+}
+
 /* A suite that differs from a right one in one thing. */
 static void refuse_sealing(struct suite wrong, uint8_t number, const char *what)
 {
@@ -172,13 +218,13 @@ static void refuse_sealing(struct suite wrong, uint8_t number, const char *what)
     expect(memcmp(&memory, &fresh, sizeof fresh) == 0, "a refusal changed the buffer");
 }
 
-static void refuse_opening(const struct suite *suite, size_t tag_length)
+static void refuse_opening(struct suite wrong, size_t tag_length, uint8_t number, const char *what)
 {
     uint8_t tag[17] = {0};
     struct memory memory = fresh_memory(), fresh = fresh_memory();
-    struct deoxys_opened opened = open_message(suite, &memory, tag, tag_length);
-    printf("  tag of %zu bytes: number %d, %zu rows\n", tag_length, opened.number, opened.rows);
-    expect(opened.number == DEOXYS_BAD_TAG_LENGTH, "another number was expected");
+    struct deoxys_opened opened = open_message(&wrong, &memory, tag, tag_length);
+    printf("  %s: number %d, %zu rows\n", what, opened.number, opened.rows);
+    expect(opened.number == number, "another number was expected");
     expect(opened.rows == 0, "a refusal counts rows");
     expect(memcmp(&memory, &fresh, sizeof fresh) == 0, "a refusal changed the buffer");
 }
@@ -192,8 +238,20 @@ static void refuse(const struct suite *suite)
     refuse_sealing(other_number, DEOXYS_BAD_SUITE, "suite 5");
     refuse_sealing(longer_key, DEOXYS_BAD_KEY_LENGTH, "key a byte too long");
     refuse_sealing(longer_nonce, DEOXYS_BAD_NONCE_LENGTH, "nonce a byte too long");
-    refuse_opening(suite, 15);
-    refuse_opening(suite, 17);
+    refuse_opening(*suite, 15, DEOXYS_BAD_TAG_LENGTH, "tag of 15 bytes");
+    refuse_opening(*suite, 17, DEOXYS_BAD_TAG_LENGTH, "tag of 17 bytes");
+}
+
+static void refuse_null(const struct suite *suite)
+{
+    struct suite no_key = *suite, no_nonce = *suite;
+    no_key.key_length = 0;
+    no_nonce.nonce_length = 0;
+    refuse_sealing(no_key, DEOXYS_BAD_KEY_LENGTH, "key NULL to seal with");
+    refuse_sealing(no_nonce, DEOXYS_BAD_NONCE_LENGTH, "nonce NULL to seal with");
+    refuse_opening(no_key, 16, DEOXYS_BAD_KEY_LENGTH, "key NULL to open with");
+    refuse_opening(no_nonce, 16, DEOXYS_BAD_NONCE_LENGTH, "nonce NULL to open with");
+    refuse_opening(*suite, 0, DEOXYS_BAD_TAG_LENGTH, "tag NULL");
 }
 
 static void refuse_too_much(void)
@@ -218,6 +276,8 @@ int main(void)
         seal_and_open(&suites[i]);
         open_forgeries(&suites[i]);
         refuse(&suites[i]);
+        seal_and_open_null(&suites[i]);
+        refuse_null(&suites[i]);
     }
     refuse_too_much();
     printf("C: %d mismatches\n", mismatches);

@@ -3,8 +3,8 @@
 
 mod stopwatch;
 
+use calibration::{SUITES, Suite};
 use cases::Case;
-use deoxys::{SUITES, Suite};
 use std::process::ExitCode;
 use stopwatch::{Operation, Side, Task};
 

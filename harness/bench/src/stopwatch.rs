@@ -48,7 +48,7 @@ impl Task {
     pub fn new(case: Case, operation: Operation) -> Self {
         let mut ciphertext = case.message.clone();
         let Case { key, nonce, data, .. } = &case;
-        let sealed = deoxys::seal(case.suite.number, key, nonce, data, &mut ciphertext);
+        let sealed = calibration::seal(case.suite.number, key, nonce, data, &mut ciphertext);
         let tag = sealed.expect("the case is allowed").tag;
         let input = match operation {
             Operation::Sealing => case.message.clone(),
@@ -90,11 +90,10 @@ impl Task {
         let Case { key, nonce, data, .. } = &self.case;
         let (suite, tag) = (self.case.suite.number, &self.tag);
         let right = match (side, self.operation) {
-            (Side::Ours, Operation::Sealing) => {
-                deoxys::seal(suite, key, nonce, data, buffer).is_ok_and(|sealed| sealed.tag == *tag)
-            }
+            (Side::Ours, Operation::Sealing) => calibration::seal(suite, key, nonce, data, buffer)
+                .is_ok_and(|sealed| sealed.tag == *tag),
             (Side::Ours, Operation::Opening) => {
-                deoxys::open(suite, key, nonce, data, buffer, tag).is_ok()
+                calibration::open(suite, key, nonce, data, buffer, tag).is_ok()
             }
             (_, Operation::Sealing) => oracle::seal(suite, key, nonce, data, buffer) == *tag,
             (_, Operation::Opening) => oracle::open(suite, key, nonce, data, buffer, tag),

@@ -1,7 +1,7 @@
 //! Inputs that are the same in every run: a case is its suite, its lengths and its seed.
 #![forbid(unsafe_code)]
 
-use deoxys::Suite;
+use calibration::Suite;
 
 /// Pseudo-random numbers: a counter with odd steps, its bits stirred by two multiplications.
 pub struct Generator(u64);

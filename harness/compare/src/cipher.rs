@@ -1,8 +1,8 @@
 //! One case: sealed and opened by both, whole and damaged.
 
 use crate::report::{Kind, Part, Place, Report};
+use calibration::ffi;
 use cases::{Case, Generator};
-use deoxys::ffi;
 use std::fmt::Debug;
 
 /// What an opening is given.

@@ -1,6 +1,6 @@
 //! The lengths of data and message that are compared.
 
-use deoxys::LIMIT;
+use calibration::LIMIT;
 
 /// On both sides of every block border up to two blocks, and three whole ones.
 pub const AROUND_BLOCKS: [usize; 9] = [0, 1, 15, 16, 17, 31, 32, 33, 48];

@@ -7,8 +7,8 @@ mod refusals;
 mod report;
 mod sample;
 
+use calibration::SUITES;
 use cases::Case;
-use deoxys::SUITES;
 use report::Report;
 use std::process::ExitCode;
 

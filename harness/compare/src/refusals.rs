@@ -2,8 +2,8 @@
 
 use crate::cipher::surrounded;
 use crate::report::{Kind, Place, Report};
+use calibration::{LIMIT, Suite, ffi};
 use cases::Generator;
-use deoxys::{LIMIT, Suite, ffi};
 
 const SEED: u64 = 1;
 

@@ -1,6 +1,6 @@
 //! What was compared, how often, and the first difference.
 
-use deoxys::{SUITES, Suite};
+use calibration::{SUITES, Suite};
 use std::{collections::BTreeMap, fmt::Debug};
 
 #[derive(Clone, Copy, PartialEq, Eq, PartialOrd, Ord)]

@@ -2,8 +2,8 @@
 //! suite, key, nonce, data, message, ciphertext and tag.
 
 use crate::lengths::AROUND_BLOCKS;
+use calibration::{SUITES, Suite};
 use cases::{Case, hex};
-use deoxys::{SUITES, Suite};
 
 pub fn text() -> String {
     let mut seeds = 1_000_000..;

@@ -1,4 +1,5 @@
-//! Deoxys sealing and opening in place, by the static library `deoxys`: slices in, a `Result` out.
+//! The library `libcalibration.a` from Rust: Deoxys sealing and opening in place, slices in, a `Result`
+//! out.
 #![deny(unsafe_code)]
 #![deny(unsafe_op_in_unsafe_fn)]
 

@@ -1,6 +1,6 @@
 //! The wrapper over the archive: what each answer is turned into, and what it leaves.
 
-use piverrone_deoxys::{LIMIT, Refusal, SUITES, Suite, open, seal};
+use calibration::{LIMIT, Refusal, SUITES, Suite, open, seal};
 
 const MESSAGE: [u8; 37] = *b"thirty-seven bytes: 2 blocks and 5 on";
 const DATA: [u8; 18] = *b"eighteen bytes, ad";

@@ -1,11 +1,13 @@
-/* Deoxys-I and Deoxys-II, sealing and opening in place, with a detached tag.
+/* The interface of the static library libcalibration.a.
  *
- * The functions are in the static library libdeoxys.a. A byte string is a
- * pointer and then a count. No pointer may be NULL, not even where its count
- * is 0, and the buffer may not overlap any other argument. Key, nonce, data
- * and the tag to open with are only read. */
-#ifndef DEOXYS_H
-#define DEOXYS_H
+ * Cipher operations begin with deoxys_: Deoxys-I and Deoxys-II, sealing and
+ * opening in place, with a detached tag.
+ *
+ * A byte string is a pointer and then a count. A pointer may be NULL where
+ * its count is 0. The buffer may not overlap any other argument. Key, nonce,
+ * data and the tag to open with are only read. */
+#ifndef CALIBRATION_H
+#define CALIBRATION_H
 
 #include <stddef.h>
 #include <stdint.h>

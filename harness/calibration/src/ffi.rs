@@ -1,4 +1,5 @@
-//! The archive's two functions as include/deoxys.h declares them, and the only unsafe code over them.
+//! The archive's two functions as include/calibration.h declares them, and the only unsafe code over
+//! them.
 
 /// The answer of a sealing.
 #[repr(C)]
