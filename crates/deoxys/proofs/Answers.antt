@@ -10,7 +10,7 @@ use Rattle.octets.specs.Octets.{same, zeroBlock}
 use Rattle.deoxys_bc.specs.Tweakey.{expanded}
 use Rattle.deoxys_i.specs.DeoxysI.{sealI, openI}
 use Rattle.deoxys_ii.specs.DeoxysII.{sealII, openII}
-use Rattle.deoxys.specs.Suites.{refusal}
+use Rattle.suites.specs.Suites.{refusal}
 use Rattle.deoxys.specs.Entry.{Sealing, Opening, sealed, opened, sealing, opening}
 
 module _ (suite : ℕ) (key nonce ad text : List ℕ) where

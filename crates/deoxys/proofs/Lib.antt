@@ -1,3 +1,2 @@
-pub mod Refusals
 pub mod Answers
 pub mod Worked

@@ -14,7 +14,7 @@ use Rattle.tweaks.specs.Tweaks.{nonceTweak, keystreamTweak}
 use Rattle.modes.specs.Rows.{textRows}
 use Rattle.deoxys_i.specs.DeoxysI.{messageRows, tagRow, sealI}
 use Rattle.deoxys_ii.specs.DeoxysII.{keystreamFrom, sealII}
-use Rattle.deoxys.specs.Suites.{keyLength, nonceLength}
+use Rattle.suites.specs.Suites.{keyLength, nonceLength}
 use Rattle.deoxys.specs.Entry.{sealed}
 
 pub record Instance : Type 0 where

@@ -10,7 +10,7 @@ use Rattle.deoxys_bc.specs.Tweakey.{expanded}
 use Rattle.modes.specs.Rows.{Outcome}
 use Rattle.deoxys_i.specs.DeoxysI.{sealI, openI}
 use Rattle.deoxys_ii.specs.DeoxysII.{sealII, openII}
-use Rattle.deoxys.specs.Suites.{isDeoxysI, refusal}
+use Rattle.suites.specs.Suites.{isDeoxysI, refusal}
 use Rattle.deoxys.specs.declared.Sealed.{Sealed}
 use Rattle.deoxys.specs.declared.Opened.{Opened}
 

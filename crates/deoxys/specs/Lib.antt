@@ -1,2 +1,1 @@
-pub mod Suites
 pub mod Entry

@@ -2,10 +2,8 @@
 ghost use mathlib.Core.Path.{_≡_};
 ghost use lib.ListN.{length};
 ghost use Rattle.modes.specs.Answers.{answered};
-ghost use Rattle.deoxys.specs.Suites.{refusal};
+ghost use Rattle.suites.specs.Suites.{refusal};
 ghost use Rattle.deoxys.specs.Entry.{sealed, opened, SealAllows, OpenAllows};
-
-pub mod suites;
 
 // What sealing answers: a number of document 01, the tag, and the block cipher calls made.
 #[repr(C)]

@@ -18,7 +18,7 @@ use Rattle.modes.proofs.Counts.{auth-count}
 use Rattle.deoxys_i.proofs.Counts.{crypt-count}
 use Rattle.deoxys_ii.proofs.Counts.{keystream-count}
 use Rattle.deoxys.specs.Entry.{sealed, opened}
-use Rattle.deoxys.proofs.Refusals.{Good, key-is, nonce-i, nonce-ii}
+use Rattle.suites.proofs.Refusals.{Good, key-is, nonce-i, nonce-ii}
 use Rattle.promises.specs.Statements.{Given, rowsFor}
 use Rattle.promises.proofs.Keys.{key-parts}
 use Rattle.promises.proofs.ModeI.{Mode, mode-i}

@@ -7,9 +7,9 @@ use native.Mathlib.Omega.{arith}
 use lib.ListN.{length, replicate}
 use Rattle.octets.specs.Octets.{Bytes, Block, same}
 use Rattle.octets.proofs.Sameness.{same-refl, same-eq}
-use Rattle.deoxys.specs.Suites.{refusal}
+use Rattle.suites.specs.Suites.{refusal}
 use Rattle.deoxys.specs.Entry.{Sealing, Opening, sealed, opened, OpenAllows}
-use Rattle.deoxys.proofs.Refusals.{good}
+use Rattle.suites.proofs.Refusals.{good}
 use Rattle.deoxys.proofs.Answers.{seal-done, open-done}
 use Rattle.promises.specs.Statements.{
   Given,

@@ -8,7 +8,7 @@ use lib.Dec.{eqb, ltb, lit≤}
 use lib.ListN.{length, replicate}
 use borrow.Author.Tests.{eqb-true, eqb-false}
 use Rattle.octets.specs.Octets.{pick, same, zeroBlock}
-use Rattle.deoxys.specs.Suites.{isSuite, keyLength, nonceLength, limit, refusal}
+use Rattle.suites.specs.Suites.{isSuite, keyLength, nonceLength, limit, refusal}
 use Rattle.deoxys.specs.Entry.{sealed, opened, sealing, opening}
 use Rattle.deoxys.proofs.Answers.{seal-refused, seal-done, open-refused, open-tag-length, open-done, open-wrong-tag}
 

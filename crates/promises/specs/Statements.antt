@@ -7,7 +7,7 @@ use mathlib.Core.List.{List}
 use Prim.Native.Nat.{ℕ, _+_, _*_}
 use lib.ListN.{length}
 use Rattle.octets.specs.Octets.{Bytes, pick, blocksOf}
-use Rattle.deoxys.specs.Suites.{isDeoxysI}
+use Rattle.suites.specs.Suites.{isDeoxysI}
 use Rattle.deoxys.specs.Entry.{Sealing, Opening, sealed, opened, sealing, SealAllows, OpenAllows}
 
 -- the inputs that both sides share are bytes, of any length

@@ -9,7 +9,7 @@ use lib.Dec.{eqb}
 use lib.ListN.{length, length-map}
 use Rattle.octets.proofs.Tables.{lt-or-ge}
 use Rattle.modes.specs.Rows.{Row}
-use Rattle.deoxys.specs.Suites.{keyLength, nonceLength}
+use Rattle.suites.specs.Suites.{keyLength, nonceLength}
 use Rattle.deoxys.specs.Entry.{sealed, sealing}
 use Rattle.deoxys.proofs.Answers.{sealed-i, sealed-ii}
 use Rattle.risk.specs.declared.Label.{Label}

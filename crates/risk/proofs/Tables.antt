@@ -10,8 +10,8 @@ use lib.ListN.{length, getD, length-append, List·getD-append}
 use lib.Seq.{getD-append-add}
 use borrow.Author.Tests.{eq-eqb, ne-eqb, le-leb, lt-leb, eqb-true}
 use Rattle.octets.specs.Octets.{pick, blocksOf}
-use Rattle.deoxys.specs.Suites.{isDeoxysI, keyLength, nonceLength}
-use Rattle.deoxys.proofs.Refusals.{Good, good}
+use Rattle.suites.specs.Suites.{isDeoxysI, keyLength, nonceLength}
+use Rattle.suites.proofs.Refusals.{Good, good}
 use Rattle.risk.specs.declared.Label.{Label}
 use Rattle.risk.specs.Labels.{blockLabel, blockLabels, textLabels, tagLabel, labels, refused, riskTable, noRow}
 

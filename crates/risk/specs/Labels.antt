@@ -6,7 +6,7 @@ use mathlib.Core.List.{List, [], _∷_, _++_}
 use Prim.Native.Nat.{ℕ, zero, suc, _+_, _*_, _%_}
 use lib.Dec.{eqb, ltb}
 use Rattle.octets.specs.Octets.{pick, blocksOf}
-use Rattle.deoxys.specs.Suites.{isDeoxysI, keyLength, nonceLength, refusal}
+use Rattle.suites.specs.Suites.{isDeoxysI, keyLength, nonceLength, refusal}
 use Rattle.risk.specs.declared.Label.{Label}
 
 -- block i of a text of so many bytes: partial where the text ends before the block does

@@ -5,7 +5,7 @@ use Prim.Native.Nat.{ℕ}
 use lib.Dec.{eqb}
 use Rattle.octets.specs.Octets.{pick}
 use Rattle.tweaks.specs.Tweaks.{numbered, nonceTweak, keystreamTweak}
-use Rattle.deoxys.specs.Suites.{isDeoxysI}
+use Rattle.suites.specs.Suites.{isDeoxysI}
 use Rattle.risk.specs.declared.Label.{Label}
 
 -- data, in both modes

@@ -26,9 +26,9 @@ pub struct Label {
 pub fn refusal(suite: u8, ad: usize, message: usize) -> u8
     ensures { λ r. ⌜ r ≡ refused suite ad message ⌝ }
 {
-    let key = deoxys::suites::key_length(suite);
-    let nonce = deoxys::suites::nonce_length(suite);
-    deoxys::suites::refusal(suite, key, nonce, ad, message)
+    let key = suites::key_length(suite);
+    let nonce = suites::nonce_length(suite);
+    suites::refusal(suite, key, nonce, ad, message)
 }
 
 // A partial block is counted.

@@ -3,7 +3,7 @@
 use mathlib.Core.Path.{refl}
 use borrow.Author.Needs.{needs}
 use Rattle.deoxys_bc.proofs.Tweakeys.{rounds-small}
-use Rattle.deoxys.proofs.Refusals.{good, key-is, nonce-i, nonce-ii}
+use Rattle.suites.proofs.Refusals.{good, key-is, nonce-i, nonce-ii}
 use Rattle.deoxys.proofs.Answers.{opened-i, opened-ii}
 use Rattle.deoxys.proofs.recover.Statement.{statement}
 use Rattle.deoxys.proofs.recover.Tie as tie

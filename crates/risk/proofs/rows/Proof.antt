@@ -2,7 +2,7 @@
 -- Assumes nothing.
 use mathlib.Core.Path.{sym, _∙_}
 use borrow.Author.Needs.{needs}
-use Rattle.deoxys.proofs.Refusals.{good}
+use Rattle.suites.proofs.Refusals.{good}
 use Rattle.risk.proofs.Tables.{table-none, table-count-i, table-count-ii}
 use Rattle.risk.proofs.rows.Statement.{statement}
 use Rattle.risk.proofs.rows.Tie as tie

@@ -1,10 +1,10 @@
--- `deoxys::suites::refusal` meets its contract: each return is the first refusal that applies, in the order of document 01.
+-- `suites::refusal` meets its contract: each return is the first refusal that applies, in the order of document 01.
 -- Assumes nothing.
 use mathlib.Core.Path.{sym, _∙_}
 use borrow.Author.Needs.{needs}
-use Rattle.deoxys.proofs.Refusals.{no-suite-0, no-suite, wrong-key, wrong-nonce, long-data, long-text, none}
-use Rattle.deoxys.proofs.suites.refusal.Statement.{statement}
-use Rattle.deoxys.proofs.suites.refusal.Tie as tie
+use Rattle.suites.proofs.Refusals.{no-suite-0, no-suite, wrong-key, wrong-nonce, long-data, long-text, none}
+use Rattle.suites.proofs.refusal.Statement.{statement}
+use Rattle.suites.proofs.refusal.Tie as tie
 
 returns : tie.Need-returns
 returns c = no-suite-0 _ _ _ _ _ (c .if1 .taken)

@@ -1,8 +1,8 @@
--- `deoxys::suites::key_length` meets its contract: by the tests.
+-- `suites::key_length` meets its contract: by the tests.
 -- Assumes nothing.
 use borrow.Author.Tests.{eq-eqb, ne-eqb}
-use Rattle.deoxys.proofs.suites.key_length.Statement.{statement}
-use Rattle.deoxys.proofs.suites.key_length.Tie as tie
+use Rattle.suites.proofs.key_length.Statement.{statement}
+use Rattle.suites.proofs.key_length.Tie as tie
 
 returns : tie.Need-returns
 returns c = simp (eq-eqb _ _ (c .if1 .taken))

@@ -1,8 +1,8 @@
--- `deoxys::suites::nonce_length` meets its contract: by the test.
+-- `suites::nonce_length` meets its contract: by the test.
 -- Assumes nothing.
 use borrow.Author.Tests.{le-leb, lt-leb}
-use Rattle.deoxys.proofs.suites.nonce_length.Statement.{statement}
-use Rattle.deoxys.proofs.suites.nonce_length.Tie as tie
+use Rattle.suites.proofs.nonce_length.Statement.{statement}
+use Rattle.suites.proofs.nonce_length.Tie as tie
 
 returns : tie.Need-returns
 returns c = simp (le-leb _ _ (c .if1 .taken))

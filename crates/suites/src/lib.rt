@@ -1,6 +1,6 @@
 // The suites and the refusals that depend on lengths alone.
 ghost use mathlib.Core.Path.{_≡_};
-ghost use Rattle.deoxys.specs.Suites.{keyLength, nonceLength, refusal};
+ghost use Rattle.suites.specs.Suites.{keyLength, nonceLength, refusal};
 
 const LIMIT: usize = 1048576;
 

@@ -9,7 +9,7 @@ use native.Mathlib.Omega.{arith}
 use lib.Dec.{eqb}
 use borrow.Author.Tests.{eq-eqb, ne-eqb, lt-ltb, le-ltb, le-leb, lt-leb, eqb-true, ltb-false, not-false}
 use Rattle.octets.specs.Octets.{pick}
-use Rattle.deoxys.specs.Suites.{isSuite, keyLength, nonceLength, refusal}
+use Rattle.suites.specs.Suites.{isSuite, keyLength, nonceLength, refusal}
 
 -- ---- what the code's tests show
 
