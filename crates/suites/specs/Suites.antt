@@ -12,12 +12,13 @@ isSuite suite = pick (ltb 0 suite) (leb suite 4) false
 abbrev pub isDeoxysI : ℕ → Bool
 isDeoxysI suite = leb suite 2
 
--- 16 bytes for the suites 1 and 3, 32 for 2 and 4
+-- 16 bytes for the suites 1 and 3, 32 for 2 and 4; 0 for what is no suite
 abbrev pub keyLength : ℕ → ℕ
-keyLength suite = pick (eqb suite 1) 16 (pick (eqb suite 3) 16 32)
+keyLength suite = pick (eqb suite 1) 16 (pick (eqb suite 2) 32 (pick (eqb suite 3) 16 (pick (eqb suite 4) 32 0)))
 
+-- 8 bytes for Deoxys-I, 15 for Deoxys-II; 0 for what is no suite
 abbrev pub nonceLength : ℕ → ℕ
-nonceLength suite = pick (isDeoxysI suite) 8 15
+nonceLength suite = pick (isSuite suite) (pick (isDeoxysI suite) 8 15) 0
 
 abbrev pub limit : ℕ
 limit = 1048576

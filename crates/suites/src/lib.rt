@@ -4,25 +4,39 @@ ghost use Rattle.suites.specs.Suites.{keyLength, nonceLength, refusal};
 
 const LIMIT: usize = 1048576;
 
+// The length of a suite's key, and 0 for what is no suite.
 pub fn key_length(suite: u8) -> usize
     ensures { λ r. ⌜ r ≡ keyLength suite ⌝ }
 {
     if suite == 1 {
         return 16;
     }
+    if suite == 2 {
+        return 32;
+    }
     if suite == 3 {
         return 16;
     }
-    32
+    if suite == 4 {
+        return 32;
+    }
+    0
 }
 
+// The length of a suite's nonce, and 0 for what is no suite.
 pub fn nonce_length(suite: u8) -> usize
     ensures { λ r. ⌜ r ≡ nonceLength suite ⌝ }
 {
+    if suite == 0 {
+        return 0;
+    }
     if suite <= 2 {
         return 8;
     }
-    15
+    if suite <= 4 {
+        return 15;
+    }
+    0
 }
 
 // The first of the numbers 1 to 5 that applies, or 0.
