@@ -4,10 +4,9 @@
 use mathlib.Core.Path.{_≡_, refl, sym, ap, _∙_}
 use mathlib.Core.List.{List}
 use Prim.Native.Nat.{ℕ}
-use native.Mathlib.Omega.{arith}
-use lib.ListN.{length, getD}
+use lib.ListN.{getD}
 use Rattle.octets.specs.Octets.{Bytes, Block, _⊕_, table, eachByte}
-use Rattle.octets.proofs.Xor.{⊕-block, ⊕-back}
+use Rattle.octets.proofs.Xor.{⊕-block, block-back}
 use Rattle.octets.proofs.Tables.{table-block, table-at, table-eq, spelt, each-block, each-undone}
 use Rattle.field.specs.Substitution.{sub, invSub}
 use Rattle.aes.specs.Round.{subBytes, invSubBytes, shiftRows, invShiftRows, mixColumns, invMixColumns, round, invRound, equivInvRound}
@@ -60,12 +59,6 @@ invShift-invSub s = refl
 
 -- ---- the round
 
-key-back : {s key : List ℕ} → Block s → Block key → (s ⊕ key) ⊕ key ≡ s
-key-back {s} {key} p q =
-    let a : length s ≡ 16 = p .size in
-    let b : length key ≡ 16 = q .size in
-    ⊕-back s key (omega arith)
-
 module _ {s key : List ℕ} (p : Block s) (q : Block key) where
   pub round-block : Block (round s key)
   unfolding round
@@ -84,7 +77,7 @@ module _ {s key : List ℕ} (p : Block s) (q : Block key) where
   invRound-round =
       let a = sub-block (p .bytes) in
       let b = shift-block (a .bytes) in
-      ap (λ (t : List ℕ). invSubBytes (invShiftRows (invMixColumns t))) (key-back (mix-block (b .bytes)) q)
+      ap (λ (t : List ℕ). invSubBytes (invShiftRows (invMixColumns t))) (block-back (mix-block (b .bytes)) q)
       ∙ ap (λ (t : List ℕ). invSubBytes (invShiftRows t)) (invMix-mix b)
       ∙ ap invSubBytes (invShift-shift a)
       ∙ invSub-subBytes p
@@ -97,7 +90,7 @@ module _ {s key : List ℕ} (p : Block s) (q : Block key) where
       ap (λ (t : List ℕ). mixColumns (shiftRows t) ⊕ key) (sub-invSubBytes (invShift-block (b .bytes)))
       ∙ ap (λ (t : List ℕ). mixColumns t ⊕ key) (shift-invShift b)
       ∙ ap (λ (t : List ℕ). t ⊕ key) (mix-invMix a)
-      ∙ key-back p q
+      ∙ block-back p q
 
   pub equiv-inv-round : equivInvRound s (invMixColumns key) ≡ invMixColumns (invSubBytes (invShiftRows s) ⊕ key)
   unfolding equivInvRound

@@ -8,7 +8,7 @@ use native.Mathlib.Nat.{le-refl}
 use native.Mathlib.Omega.{arith}
 use lib.ListN.{length}
 use Rattle.octets.specs.Octets.{Bytes, Block, _⊕_, blockAt}
-use Rattle.octets.proofs.Xor.{⊕-block, ⊕-back, ⊕-length}
+use Rattle.octets.proofs.Xor.{⊕-block, ⊕-length, block-back}
 use Rattle.octets.proofs.Parts.{part-length, part-block}
 use Rattle.aes.specs.Round.{invSubBytes, invShiftRows, mixColumns, invMixColumns, round, invRound, equivInvRound}
 use Rattle.aes.proofs.Mixing.{mix-block, invMix-block, invMix-mix, mix-invMix}
@@ -40,12 +40,6 @@ abbrev pub unran : List ℕ → List ℕ → ℕ → List ℕ
 unran keys state zero = mixColumns state
 unran keys state (suc n) = unran keys (equivInvRound state (invMixColumns (blockAt keys n))) n
 
-back : {s t : List ℕ} → Block s → Block t → (s ⊕ t) ⊕ t ≡ s
-back {s} {t} p q =
-    let a : length s ≡ 16 = p .size in
-    let b : length t ≡ 16 = q .size in
-    ⊕-back s t (omega arith)
-
 module _ {k : Subkeys} {tweak : List ℕ} (parts : KeyParts k) (p : Block tweak) where
   pub roundKey-block : (i : ℕ) → i ≤ k .rounds → Block (roundKey k tweak i)
   unfolding roundKey
@@ -65,14 +59,14 @@ module _ {k : Subkeys} {tweak : List ℕ} (parts : KeyParts k) (p : Block tweak)
 
   before-after : {s : List ℕ} → Block s → (n : ℕ) → n ≤ k .rounds → beforeRounds k tweak (afterRounds k tweak s n) n ≡ s
   unfolding afterRounds beforeRounds
-  before-after q zero h = back q (roundKey-block 0 h)
+  before-after q zero h = block-back q (roundKey-block 0 h)
   before-after {s} q (suc n) h =
       ap (λ (t : List ℕ). beforeRounds k tweak t n) (invRound-round (after-block q n (omega arith)) (roundKey-block (suc n) h))
       ∙ before-after q n (omega arith)
 
   after-before : {s : List ℕ} → Block s → (n : ℕ) → n ≤ k .rounds → afterRounds k tweak (beforeRounds k tweak s n) n ≡ s
   unfolding afterRounds beforeRounds
-  after-before q zero h = back q (roundKey-block 0 h)
+  after-before q zero h = block-back q (roundKey-block 0 h)
   after-before {s} q (suc n) h =
       ap (λ (t : List ℕ). round t (roundKey k tweak (suc n))) (after-before (invRound-block q (roundKey-block (suc n) h)) n (omega arith))
       ∙ round-invRound q (roundKey-block (suc n) h)
@@ -122,7 +116,7 @@ module _ {k : Subkeys} {tweak : List ℕ} (parts : KeyParts k) (p : Block tweak)
     start i h q =
         let key = roundKey-block i h in
         ap (λ (t : List ℕ). beforeRounds k tweak (t ⊕ roundKey k tweak i) i) (mix-invMix (⊕-block q key))
-        ∙ ap (λ (t : List ℕ). beforeRounds k tweak t i) (back q key)
+        ∙ ap (λ (t : List ℕ). beforeRounds k tweak t i) (block-back q key)
 
     turn : (i : ℕ) → suc i ≤ k .rounds → {state block : List ℕ} → Block state → Left state (suc i) block
         → Left (equivInvRound state (invMixColumns (roundKey k tweak i))) i block
@@ -132,14 +126,14 @@ module _ {k : Subkeys} {tweak : List ℕ} (parts : KeyParts k) (p : Block tweak)
         let undone = invSub-block (invShift-block (q .bytes) .bytes) in
         ap (λ (t : List ℕ). beforeRounds k tweak (mixColumns t ⊕ roundKey k tweak i) i) (equiv-inv-round q key)
         ∙ ap (λ (t : List ℕ). beforeRounds k tweak (t ⊕ roundKey k tweak i) i) (mix-invMix (⊕-block undone key))
-        ∙ ap (λ (t : List ℕ). beforeRounds k tweak t i) (back undone key)
+        ∙ ap (λ (t : List ℕ). beforeRounds k tweak t i) (block-back undone key)
         ∙ sym (ap (λ (t : List ℕ). beforeRounds k tweak (invSubBytes (invShiftRows t)) i)
-        (ap invMixColumns (back (mix-block (q .bytes)) (roundKey-block (suc i) h)) ∙ invMix-mix q))
+        (ap invMixColumns (block-back (mix-block (q .bytes)) (roundKey-block (suc i) h)) ∙ invMix-mix q))
         ∙ left
 
     unran-is : (n : ℕ) → n ≤ k .rounds → {state block : List ℕ} → Block state → Left state n block → unran keys state n ≡ block
     unfolding beforeRounds
-    unran-is zero h q left = sym (back (mix-block (q .bytes)) (roundKey-block 0 h)) ∙ left
+    unran-is zero h q left = sym (block-back (mix-block (q .bytes)) (roundKey-block 0 h)) ∙ left
     unran-is (suc n) h {state} q left =
         let key = roundKey-block n (omega arith) in
         ap (λ (x : List ℕ). unran keys (equivInvRound state (invMixColumns x)) n) (key-at n (omega arith))

@@ -6,13 +6,13 @@ use mathlib.Core.List.{List, _++_}
 use Prim.Native.Nat.{ℕ, zero, suc, _+_, _-_, _*_, _≤_, _<_}
 use native.Mathlib.Numerals.{add-one}
 use native.Mathlib.Omega.{arith}
-use lib.Dec.{eqb, ltb, ltb→lt, lit≤}
+use lib.Dec.{eqb, lit≤}
 use lib.ListN.{length, getD, take, drop, replicate, length-drop}
 use lib.Seq.{take-all}
 use borrow.Author.Tests.{eq-eqb, ne-eqb}
 use Rattle.octets.specs.Octets.{Bytes, Block, pick, _⊕_, table, eachByte, zeroBlock}
 use Rattle.octets.proofs.Xor.{⊕-block, ⊕-length, zero-⊕}
-use Rattle.octets.proofs.Tables.{below, agreed, table-block, each-block}
+use Rattle.octets.proofs.Tables.{bounded, agreed, table-block, each-block}
 use Rattle.deoxys_bc.specs.Tweakey.{places, h, lfsr2, lfsr3, repeated, tk2, tk3, tweakAfter, constantBlock, keyPart, roundsOf, joined, flat, expanded}
 use Rattle.deoxys_bc.specs.declared.Subkeys.{Subkeys}
 
@@ -28,17 +28,17 @@ lfsr2-lfsr3 = agreed (λ x. lfsr2 (lfsr3 x)) (λ x. x) 256 tt
 
 lfsr2-lt : (x : ℕ) → x < 256 → lfsr2 x < 256
 unfolding lfsr2
-lfsr2-lt x b = ltb→lt (lfsr2 x) 256 (below (λ y. ltb (lfsr2 y) 256) 256 tt x b)
+lfsr2-lt = bounded lfsr2 256 256 tt
 
 lfsr3-lt : (x : ℕ) → x < 256 → lfsr3 x < 256
 unfolding lfsr3
-lfsr3-lt x b = ltb→lt (lfsr3 x) 256 (below (λ y. ltb (lfsr3 y) 256) 256 tt x b)
+lfsr3-lt = bounded lfsr3 256 256 tt
 
 -- ---- blocks stay blocks
 
 pub place-below : (i : ℕ) → i < 16 → getD places i 0 < 16
 unfolding places
-place-below i b = ltb→lt (getD places i 0) 16 (below (λ j. ltb (getD places j 0) 16) 16 tt i b)
+place-below = bounded (λ i. getD places i 0) 16 16 tt
 
 pub h-block : {s : List ℕ} → Bytes s → Block (h s)
 unfolding h

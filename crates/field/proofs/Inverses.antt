@@ -4,11 +4,11 @@
 use mathlib.Core.Path.{_≡_, ap, _∙_}
 use mathlib.Core.List.{List, [], _∷_}
 use Prim.Native.Nat.{ℕ, _<_}
-use lib.Dec.{eqb, ltb, ltb→lt}
+use lib.Dec.{eqb}
 use lib.ListN.{getD}
 use borrow.Author.Tests.{ne-eqb}
 use Rattle.octets.specs.Octets.{pick}
-use Rattle.octets.proofs.Tables.{below, agreed}
+use Rattle.octets.proofs.Tables.{bounded, agreed}
 use Rattle.field.specs.Field.{double, times, power, inverse}
 
 unfoldable pub inverses : List ℕ
@@ -36,7 +36,7 @@ inverse-at = agreed inverse (λ x. getD inverses x 0) 256 tt
 
 pub inverses-lt : (x : ℕ) → x < 256 → getD inverses x 0 < 256
 unfolding inverses
-inverses-lt x h = ltb→lt (getD inverses x 0) 256 (below (λ y. ltb (getD inverses y 0) 256) 256 tt x h)
+inverses-lt = bounded (λ x. getD inverses x 0) 256 256 tt
 
 -- the power is the multiplicative inverse
 pub times-inverse : (x : ℕ) → (x ≡ 0 → ⊥) → x < 256 → times x (inverse x) ≡ 1

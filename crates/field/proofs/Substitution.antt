@@ -2,23 +2,18 @@
 -- Assumes nothing.
 use mathlib.Core.Path.{_≡_, sym, ap, _∙_, subst}
 use Prim.Native.Nat.{ℕ, _<_}
-use lib.Dec.{T, ltb, ltb→lt}
 use lib.ListN.{getD}
-use Rattle.octets.proofs.Tables.{below, agreed}
+use Rattle.octets.proofs.Tables.{bounded, agreed}
 use Rattle.field.specs.Substitution.{affine, unaffine, sub, invSub}
 use Rattle.field.proofs.Inverses.{inverses, inverse-at, inverses-lt}
 
--- every byte's image is below 256, by a test
-tested : (f : ℕ → ℕ) → T (Rattle.octets.proofs.Tables.allBelow (λ x. ltb (f x) 256) 256) → (x : ℕ) → x < 256 → f x < 256
-tested f t x h = ltb→lt (f x) 256 (below (λ y. ltb (f y) 256) 256 t x h)
-
 affine-lt : (x : ℕ) → x < 256 → affine x < 256
 unfolding affine
-affine-lt = tested affine tt
+affine-lt = bounded affine 256 256 tt
 
 unaffine-lt : (x : ℕ) → x < 256 → unaffine x < 256
 unfolding unaffine
-unaffine-lt = tested unaffine tt
+unaffine-lt = bounded unaffine 256 256 tt
 
 -- the rules, read off the list of inverses
 pub sub-at : (x : ℕ) → x < 256 → sub x ≡ affine (getD inverses x 0)

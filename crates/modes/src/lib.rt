@@ -1,5 +1,5 @@
-// The modes: the crate's `src/modes.rs`. Every block cipher call is one of `deoxys_bc::encipher` and `deoxys_bc::decipher`, its block
-// used and its count handed on.
+// What both modes share: Auth, as `compute_ad_tag` of the crate's `src/modes.rs` has it, and what a mode answers. Here and in each mode every
+// block cipher call is one of `deoxys_bc::encipher` and `deoxys_bc::decipher`, its block used and its count handed on.
 ghost use mathlib.Core.Path.{_≡_};
 ghost use Prim.Native.Nat.{_+_, _/_, _≤_, _<_, _^_};
 ghost use lib.ListN.{length};

@@ -10,7 +10,7 @@ use native.Mathlib.Omega.{arith}
 use mir.Val.{Fits}
 use mir.Syntax.{w8}
 use lib.Bits.{bitXor}
-use lib.Dec.{T, eqb, eqb→eq, lit<}
+use lib.Dec.{T, eqb, eqb→eq, ltb, ltb→lt, lit<}
 use lib.ListN.{length, getD, set, length-set, List·getD-eq-default}
 use lib.Seq.{ext-getD, getD-set-same, getD-set-other}
 use borrow.Author.Count.{below-more}
@@ -139,6 +139,10 @@ agree f g n = allBelow (λ x. eqb (f x) (g x)) n
 -- two functions that agree below n
 pub agreed : (f g : ℕ → ℕ) (n : ℕ) → T (agree f g n) → (x : ℕ) → x < n → f x ≡ g x
 agreed f g n t x h = eqb→eq (f x) (g x) (below (λ y. eqb (f y) (g y)) n t x h)
+
+-- a function that stays below m at every number below n
+pub bounded : (f : ℕ → ℕ) (m n : ℕ) → T (allBelow (λ x. ltb (f x) m) n) → (x : ℕ) → x < n → f x < m
+bounded f m n t x h = ltb→lt (f x) m (below (λ y. ltb (f y) m) n t x h)
 
 -- a list written out is the table of f, by one test over its places
 pub table-tested : (f : ℕ → ℕ) (n : ℕ) (l : List ℕ) → length l ≡ n → T (agree (λ k. getD l k 0) f n) → l ≡ table f n

@@ -116,3 +116,10 @@ pub ⊕-block : {s t : List ℕ} → Block s → Block t → Block (s ⊕ t)
     let a : length s ≡ 16 = p .size in
     let b : length t ≡ 16 = q .size in
     record { size = ⊕-length s t (omega arith) ∙ a; bytes = ⊕-bytes (p .bytes) (q .bytes) }
+
+-- XORed in twice, a block is gone
+pub block-back : {s t : List ℕ} → Block s → Block t → (s ⊕ t) ⊕ t ≡ s
+block-back {s} {t} p q =
+    let a : length s ≡ 16 = p .size in
+    let b : length t ≡ 16 = q .size in
+    ⊕-back s t (omega arith)

@@ -1,5 +1,6 @@
 pub mod Keys
 pub mod Blocks
+pub mod Undoing
 pub mod ModeI
 pub mod ModeII
 pub mod Modes

@@ -15,26 +15,12 @@ use Rattle.deoxys_bc.specs.Cipher.{encipher}
 use Rattle.deoxys_bc.specs.declared.Subkeys.{Subkeys}
 use Rattle.deoxys_bc.proofs.Rounds.{KeyParts, encipher-block, decipher-block, decipher-encipher, encipher-decipher}
 use Rattle.tweaks.specs.Tweaks.{nonceTweak}
-use Rattle.modes.specs.Rows.{Row, enciphered, deciphered, Outcome, dataRows, absorbed}
+use Rattle.modes.specs.Rows.{Row, enciphered, deciphered, dataRows, absorbed}
 use Rattle.deoxys_i.specs.DeoxysI.{messageRows, textOf, tagRow, crypted, sealI, openI}
 use Rattle.modes.proofs.Authenticating.{partial-some}
+use Rattle.promises.proofs.Undoing.{Like, Mode}
 use Rattle.promises.proofs.Keys.{append-bytes}
 use Rattle.promises.proofs.Blocks.{zero-block, nonce-block, auth-block, checksum-block}
-
--- bytes, as many
-pub record Like (s t : List ℕ) : Type 0 where
-  pub size : length t ≡ length s
-  pub bytes : Bytes t
-
--- what a mode's sealing and opening are to each other
-pub record Mode (seal : List ℕ → Outcome) (open′ : List ℕ → List ℕ → Outcome) : Type 0 where
-  pub sealed-like : (m : List ℕ) → Bytes m → Like m (seal m .text)
-  pub tag-block : (m : List ℕ) → Bytes m → Block (seal m .tag)
-  pub opened-like : (c t : List ℕ) → Bytes c → Block t → Like c (open′ c t .text)
-  pub gives-back : (m : List ℕ) → Bytes m → open′ (seal m .text) (seal m .tag) .text ≡ m
-  pub same-tag : (m : List ℕ) → Bytes m → open′ (seal m .text) (seal m .tag) .tag ≡ seal m .tag
-  pub remakes : (c t : List ℕ) → Bytes c → Block t → open′ c t .tag ≡ t → seal (open′ c t .text) .text ≡ c
-  pub remakes-tag : (c t : List ℕ) → Bytes c → Block t → open′ c t .tag ≡ t → seal (open′ c t .text) .tag ≡ t
 
 -- a call gives blocks, and another undoes it
 record Undoes (call call′ : List ℕ → List ℕ → Row) : Type 0 where

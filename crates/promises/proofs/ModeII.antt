@@ -16,7 +16,7 @@ use Rattle.modes.specs.Rows.{blocks}
 use Rattle.deoxys_ii.specs.DeoxysII.{tagRow, keystreamFrom, keystreamRows, given, crypted, sealII, openII}
 use Rattle.promises.proofs.Keys.{nil-bytes, append-bytes}
 use Rattle.promises.proofs.Blocks.{zero-block, prefix-block, keystream-block, auth-block}
-use Rattle.promises.proofs.ModeI.{Like, Mode}
+use Rattle.promises.proofs.Undoing.{Like, Mode}
 
 -- n blocks end to end
 record Stream (n : ℕ) (s : List ℕ) : Type 0 where

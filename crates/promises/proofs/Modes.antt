@@ -21,7 +21,8 @@ use Rattle.deoxys.specs.Entry.{sealed, opened}
 use Rattle.suites.proofs.Refusals.{Good, key-is, nonce-i, nonce-ii}
 use Rattle.promises.specs.Statements.{Given, rowsFor}
 use Rattle.promises.proofs.Keys.{key-parts}
-use Rattle.promises.proofs.ModeI.{Mode, mode-i}
+use Rattle.promises.proofs.Undoing.{Mode}
+use Rattle.promises.proofs.ModeI.{mode-i}
 use Rattle.promises.proofs.ModeII.{mode-ii}
 
 either : (b : Bool) (f g : List ℕ → Outcome) (f′ g′ : List ℕ → List ℕ → Outcome) → (b ≡ true → Mode f f′) → (b ≡ false → Mode g g′)

@@ -27,7 +27,7 @@ use Rattle.promises.specs.Statements.{
   One-outcome-of-seal,
   One-outcome-of-open,
 }
-use Rattle.promises.proofs.ModeI.{Mode}
+use Rattle.promises.proofs.Undoing.{Mode}
 use Rattle.promises.proofs.Modes.{mode, rows-sealed, rows-opened}
 use Rattle.promises.proofs.Views.{number, SealView, seal-view, OpenView, open-view, refusal-small}
 
