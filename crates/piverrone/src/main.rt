@@ -1,7 +1,7 @@
 // Seals and opens files, and prints the risk table of a sealing.
 //
-// No program has an exit status here. What was done is told on standard output, and what was not on
-// standard error. The file OUT is written only where the answer is 0.
+// No program has an exit status here: `tools/piverrone` makes one of what is written. What was done is told on
+// standard output, and what was not on standard error. The file OUT is written only where the answer is 0.
 mod files;
 mod numbers;
 mod parcel;

@@ -36,7 +36,7 @@ pub fn usage() {
     warn(b"       piverrone open SUITE KEYFILE NONCEFILE DATAFILE IN OUT\n");
     warn(b"       piverrone rows SUITE DATA-BYTES MESSAGE-BYTES\n");
     warn(
-        b"The exit status says nothing. OUT is written where standard output says sealed or opened.\n",
+        b"OUT is written where standard output says sealed or opened. For an exit status run tools/piverrone.\n",
     );
 }
 
