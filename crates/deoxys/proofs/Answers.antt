@@ -7,7 +7,7 @@ use Prim.Native.Nat.{ℕ, _≤_, _<_}
 use lib.ListN.{length, replicate}
 use borrow.Author.Tests.{eq-eqb, ne-eqb, le-leb, lt-leb}
 use Rattle.octets.specs.Octets.{same, zeroBlock}
-use Rattle.deoxys_bc.specs.Tweakey.{expanded}
+use Rattle.tweakey.specs.Tweakey.{expanded}
 use Rattle.deoxys_i.specs.DeoxysI.{sealI, openI}
 use Rattle.deoxys_ii.specs.DeoxysII.{sealII, openII}
 use Rattle.suites.specs.Suites.{refusal}

@@ -9,7 +9,7 @@ use Rattle.octets.specs.Octets.{_⊕_, table, eachByte, zeroBlock, bigEndian}
 use Rattle.field.specs.Field.{double, times, power, inverse}
 use Rattle.field.specs.Substitution.{affine, sub}
 use Rattle.aes.specs.Round.{mixByte, mixColumns}
-use Rattle.deoxys_bc.specs.Tweakey.{lfsr2, lfsr3, roundConstant, constantBlock, expanded}
+use Rattle.tweakey.specs.Tweakey.{lfsr2, lfsr3, roundConstant, constantBlock, expanded}
 use Rattle.tweaks.specs.Tweaks.{nonceTweak, keystreamTweak}
 use Rattle.modes.specs.Rows.{textRows}
 use Rattle.deoxys_i.specs.DeoxysI.{messageRows, tagRow, sealI}

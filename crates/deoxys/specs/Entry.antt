@@ -6,7 +6,7 @@ use Prim.Native.Nat.{ℕ}
 use lib.Dec.{eqb}
 use lib.ListN.{length, replicate}
 use Rattle.octets.specs.Octets.{pick, zeroBlock, same}
-use Rattle.deoxys_bc.specs.Tweakey.{expanded}
+use Rattle.tweakey.specs.Tweakey.{expanded}
 use Rattle.modes.specs.Rows.{Outcome}
 use Rattle.deoxys_i.specs.DeoxysI.{sealI, openI}
 use Rattle.deoxys_ii.specs.DeoxysII.{sealII, openII}

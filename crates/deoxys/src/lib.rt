@@ -30,7 +30,7 @@ fn protect(suite: u8, key: &[u8], nonce: &[u8], ad: &[u8], buffer: &mut [u8]) ->
     ensures { λ r. ⌜ r ≡ answered (sealed suite (now (key .entry)) (now (nonce .entry)) (now (ad .entry)) (now (buffer .entry))) ⌝ }
     ensures { λ r. ⌜ now (buffer .exit) ≡ sealed suite (now (key .entry)) (now (nonce .entry)) (now (ad .entry)) (now (buffer .entry)) .text ⌝ }
 {
-    let k = deoxys_bc::tweakey::precompute_subkeys(key);
+    let k = tweakey::precompute_subkeys(key);
     if suite <= 2 {
         return deoxys_i::seal(k, nonce, ad, buffer);
     }
@@ -72,7 +72,7 @@ fn recover(
     ensures { λ r. ⌜ r ≡ answered (opened suite (now (key .entry)) (now (nonce .entry)) (now (ad .entry)) (now (buffer .entry)) tag) ⌝ }
     ensures { λ r. ⌜ now (buffer .exit) ≡ opened suite (now (key .entry)) (now (nonce .entry)) (now (ad .entry)) (now (buffer .entry)) tag .text ⌝ }
 {
-    let k = deoxys_bc::tweakey::precompute_subkeys(key);
+    let k = tweakey::precompute_subkeys(key);
     if suite <= 2 {
         return deoxys_i::open(k, nonce, ad, buffer);
     }

@@ -1,3 +1,1 @@
-pub mod Tweakeys
-pub mod Flat
 pub mod Rounds

@@ -8,28 +8,21 @@ use native.Mathlib.Nat.{le-refl}
 use native.Mathlib.Omega.{arith}
 use lib.ListN.{length}
 use Rattle.octets.specs.Octets.{Bytes, Block, _⊕_, blockAt}
-use Rattle.octets.proofs.Xor.{⊕-block, ⊕-length, block-back}
-use Rattle.octets.proofs.Parts.{part-length, part-block}
+use Rattle.octets.proofs.Xor.{⊕-block, block-back}
+use Rattle.octets.proofs.Parts.{part-block}
 use Rattle.aes.specs.Round.{invSubBytes, invShiftRows, mixColumns, invMixColumns, round, invRound, equivInvRound}
 use Rattle.aes.proofs.Mixing.{mix-block, invMix-block, invMix-mix, mix-invMix}
 use Rattle.aes.proofs.Rounds.{invSub-block, invShift-block, round-block, invRound-block, invRound-round, round-invRound, equiv-block, equiv-inv-round}
-use Rattle.deoxys_bc.specs.Tweakey.{tweakAfter, flat}
-use Rattle.deoxys_bc.specs.Cipher.{roundKey, afterRounds, beforeRounds, encipher, decipher}
-use Rattle.deoxys_bc.specs.declared.Subkeys.{Subkeys}
-use Rattle.deoxys_bc.proofs.Flat.{flat-at}
-use Rattle.deoxys_bc.proofs.Tweakeys.{tweak-block}
+use Rattle.tweakey.specs.Tweakey.{flat, roundKey}
+use Rattle.deoxys_bc.specs.Cipher.{afterRounds, beforeRounds, encipher, decipher}
+use Rattle.tweakey.specs.declared.Subkeys.{Subkeys}
+use Rattle.tweakey.proofs.Flat.{flat-at}
+use Rattle.tweakey.proofs.Tweakeys.{tweak-block, roundKey-length}
 
 -- key parts of bytes, enough for the rounds
 pub record KeyParts (k : Subkeys) : Type 0 where
   pub bytes : Bytes (k .bytes)
   pub enough : 16 * (k .rounds + 1) ≤ length (k .bytes)
-
-pub roundKey-length : (k : Subkeys) (i : ℕ) {tweak : List ℕ} → Block tweak → 16 * i + 16 ≤ length (k .bytes) → length (roundKey k tweak i) ≡ 16
-unfolding roundKey
-roundKey-length k i {tweak} p h =
-    let a : length (blockAt (k .bytes) i) ≡ 16 = part-length (k .bytes) (16 * i) h in
-    let b : length (tweakAfter i tweak) ≡ 16 = tweak-block i p .size in
-    ⊕-length (blockAt (k .bytes) i) (tweakAfter i tweak) (omega arith) ∙ a
 
 -- n rounds over flat round keys, and n rounds of the equivalent inverse cipher and the final mix
 abbrev pub ran : List ℕ → List ℕ → ℕ → List ℕ

@@ -2,14 +2,10 @@
 -- Assumes nothing.
 use mathlib.Core.List.{List}
 use Prim.Native.Nat.{ℕ, zero, suc}
-use Rattle.octets.specs.Octets.{_⊕_, blockAt}
+use Rattle.octets.specs.Octets.{_⊕_}
 use Rattle.aes.specs.Round.{round, invRound}
-use Rattle.deoxys_bc.specs.Tweakey.{tweakAfter}
-use Rattle.deoxys_bc.specs.declared.Subkeys.{Subkeys}
-
--- key part i XOR the tweak after i uses of h
-unfoldable pub roundKey : Subkeys → List ℕ → ℕ → List ℕ
-roundKey k tweak i = blockAt (k .bytes) i ⊕ tweakAfter i tweak
+use Rattle.tweakey.specs.Tweakey.{roundKey}
+use Rattle.tweakey.specs.declared.Subkeys.{Subkeys}
 
 -- XOR of round key 0, then n rounds with the round keys 1 to n: every round mixes, the last too
 unfoldable pub afterRounds : Subkeys → List ℕ → List ℕ → ℕ → List ℕ

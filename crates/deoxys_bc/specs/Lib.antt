@@ -1,2 +1,1 @@
-pub mod Tweakey
 pub mod Cipher

@@ -3,13 +3,7 @@ ghost use mathlib.Core.Path.{_≡_};
 ghost use Prim.Native.Nat.{_+_, _≤_, _<_, _^_};
 ghost use Rattle.deoxys_bc.specs.Cipher.{encipher, decipher};
 
-pub mod tweakey;
-
-// The expanded key: the key parts of all round keys, flat (240 or 272 bytes, the rest zero), and the number of rounds.
-pub struct Subkeys {
-    pub bytes: [u8; 272],
-    pub rounds: usize,
-}
+use tweakey::Subkeys;
 
 // The block cipher calls made so far.
 pub struct Count {

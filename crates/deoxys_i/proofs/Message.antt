@@ -10,7 +10,7 @@ use lib.Seq.{drop-drop, take-all, length-take-le}
 use Rattle.octets.specs.Octets.{_⊕_, zeroBlock}
 use Rattle.octets.proofs.Parts.{put-take, put-drop}
 use Rattle.deoxys_bc.specs.Cipher.{encipher}
-use Rattle.deoxys_bc.specs.declared.Subkeys.{Subkeys}
+use Rattle.tweakey.specs.declared.Subkeys.{Subkeys}
 use Rattle.tweaks.specs.Tweaks.{nonceTweak}
 use Rattle.modes.specs.Rows.{Row, enciphered}
 use Rattle.deoxys_i.specs.DeoxysI.{messageRows, textOf}

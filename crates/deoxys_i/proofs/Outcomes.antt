@@ -9,7 +9,7 @@ use lib.Dec.{eqb}
 use lib.ListN.{length, length-append}
 use Rattle.octets.specs.Octets.{pick, _⊕_, zeroBlock}
 use Rattle.deoxys_bc.specs.Cipher.{encipher}
-use Rattle.deoxys_bc.specs.declared.Subkeys.{Subkeys}
+use Rattle.tweakey.specs.declared.Subkeys.{Subkeys}
 use Rattle.tweaks.specs.Tweaks.{nonceTweak}
 use Rattle.modes.specs.Rows.{Row, dataRows, absorbed}
 use Rattle.modes.specs.Answers.{answered}

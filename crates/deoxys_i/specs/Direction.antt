@@ -3,7 +3,7 @@
 use mathlib.Core.Bool.{Bool, true, false}
 use mathlib.Core.List.{List}
 use Prim.Native.Nat.{ℕ}
-use Rattle.deoxys_bc.specs.declared.Subkeys.{Subkeys}
+use Rattle.tweakey.specs.declared.Subkeys.{Subkeys}
 use Rattle.modes.specs.Rows.{Row, enciphered, deciphered}
 
 -- a call on a full block: deciphering where it is an opening

@@ -12,7 +12,7 @@ ghost use Rattle.deoxys_i.specs.Direction.{direction};
 ghost use Rattle.deoxys_i.specs.DeoxysI.{checksum, cryptRows, crypted, sealI, openI};
 use deoxys_bc::Called;
 use deoxys_bc::Count;
-use deoxys_bc::Subkeys;
+use tweakey::Subkeys;
 use modes::Tagged;
 
 const KIND_MESSAGE: u8 = 0;

@@ -13,7 +13,7 @@ use Rattle.octets.specs.Octets.{_⊕_}
 use Rattle.octets.proofs.Xor.{⊕-length, ⊕-append}
 use Rattle.octets.proofs.Parts.{part-length, put-take, put-drop}
 use Rattle.deoxys_bc.specs.Cipher.{encipher}
-use Rattle.deoxys_bc.specs.declared.Subkeys.{Subkeys}
+use Rattle.tweakey.specs.declared.Subkeys.{Subkeys}
 use Rattle.tweaks.specs.Tweaks.{keystreamTweak}
 use Rattle.deoxys_ii.specs.DeoxysII.{keystreamFrom, given}
 

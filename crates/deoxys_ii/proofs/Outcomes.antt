@@ -7,7 +7,7 @@ use native.Mathlib.Omega.{arith}
 use lib.ListN.{length, length-append}
 use Rattle.octets.specs.Octets.{zeroBlock}
 use Rattle.deoxys_bc.specs.Cipher.{encipher}
-use Rattle.deoxys_bc.specs.declared.Subkeys.{Subkeys}
+use Rattle.tweakey.specs.declared.Subkeys.{Subkeys}
 use Rattle.modes.specs.Rows.{dataRows, absorbed}
 use Rattle.modes.specs.Answers.{answered}
 use Rattle.modes.proofs.Outcomes.{answer}

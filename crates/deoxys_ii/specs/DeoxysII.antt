@@ -3,7 +3,7 @@
 use mathlib.Core.List.{List, [], _∷_, _++_}
 use Prim.Native.Nat.{ℕ, zero, suc, _+_}
 use Rattle.octets.specs.Octets.{_⊕_, zeroBlock}
-use Rattle.deoxys_bc.specs.declared.Subkeys.{Subkeys}
+use Rattle.tweakey.specs.declared.Subkeys.{Subkeys}
 use Rattle.tweaks.specs.Tweaks.{keystreamTweak}
 use Rattle.modes.specs.Rows.{Row, enciphered, Outcome, blocks, authRows, dataRows, absorbed}
 

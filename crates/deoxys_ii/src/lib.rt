@@ -10,7 +10,7 @@ ghost use Rattle.modes.specs.Answers.{answered};
 ghost use Rattle.deoxys_ii.specs.DeoxysII.{messageRows, keystreamRows, crypted, sealII, openII};
 use deoxys_bc::Called;
 use deoxys_bc::Count;
-use deoxys_bc::Subkeys;
+use tweakey::Subkeys;
 use modes::Tagged;
 use modes::Tally;
 

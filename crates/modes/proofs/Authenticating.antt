@@ -8,7 +8,7 @@ use native.Mathlib.Omega.{arith}
 use lib.ListN.{length, drop, length-drop, drop-of-length-le}
 use Rattle.octets.specs.Octets.{_⊕_, blockAt, padded}
 use Rattle.deoxys_bc.specs.Cipher.{encipher}
-use Rattle.deoxys_bc.specs.declared.Subkeys.{Subkeys}
+use Rattle.tweakey.specs.declared.Subkeys.{Subkeys}
 use Rattle.tweaks.specs.Tweaks.{numbered}
 use Rattle.modes.specs.Rows.{Row, enciphered, partialRow, textRows, absorbed}
 use Rattle.modes.specs.declared.Tally.{Tally}

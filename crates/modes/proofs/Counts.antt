@@ -6,7 +6,7 @@ use Prim.Native.Nat.{ℕ, zero, suc, _+_, _-_, _*_, _/_, _≤_, _<_}
 use native.Mathlib.Omega.{arith}
 use lib.ListN.{length, drop, length-drop}
 use Rattle.deoxys_bc.specs.declared.Count.{Count}
-use Rattle.deoxys_bc.specs.declared.Subkeys.{Subkeys}
+use Rattle.tweakey.specs.declared.Subkeys.{Subkeys}
 use Rattle.modes.specs.Rows.{Row, blocks, partialRow, textRows, authRows}
 
 pub partial-length : (call : List ℕ → Row) (s : List ℕ) → length s < 16 → length (partialRow call s) ≡ (length s + 15) / 16

@@ -5,7 +5,7 @@ use Prim.Native.Nat.{ℕ, zero, suc, _+_, _*_, _/_}
 use lib.ListN.{length, drop}
 use Rattle.octets.specs.Octets.{_⊕_, blocksOf, blockAt, padded}
 use Rattle.deoxys_bc.specs.Cipher.{encipher, decipher}
-use Rattle.deoxys_bc.specs.declared.Subkeys.{Subkeys}
+use Rattle.tweakey.specs.declared.Subkeys.{Subkeys}
 use Rattle.tweaks.specs.Tweaks.{numbered}
 
 pub record Row : Type 0 where

@@ -7,7 +7,7 @@ ghost use Rattle.octets.specs.Octets.{_⊕_, zeroBlock};
 ghost use Rattle.deoxys_bc.specs.Cipher.{encipher};
 ghost use Rattle.modes.specs.Rows.{authRows, dataRows, absorbed};
 use deoxys_bc::Count;
-use deoxys_bc::Subkeys;
+use tweakey::Subkeys;
 
 const TWEAK_AD: u8 = 0x20;
 

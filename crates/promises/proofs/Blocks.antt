@@ -11,7 +11,7 @@ use Rattle.octets.specs.Octets.{Bytes, Block, table, zeroBlock, padded, bigEndi
 use Rattle.octets.proofs.Xor.{⊕-block}
 use Rattle.octets.proofs.Tables.{spelt}
 use Rattle.octets.proofs.Parts.{part-block, part-bytes, padded-length}
-use Rattle.deoxys_bc.specs.declared.Subkeys.{Subkeys}
+use Rattle.tweakey.specs.declared.Subkeys.{Subkeys}
 use Rattle.deoxys_bc.proofs.Rounds.{KeyParts, encipher-block}
 use Rattle.tweaks.specs.Tweaks.{numbered, halves, paired, nonceTweak, topBitSet, keystreamTweak}
 use Rattle.modes.specs.Rows.{enciphered, partialRow, textRows, authRows, absorbed}

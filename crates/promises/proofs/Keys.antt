@@ -13,9 +13,9 @@ use Rattle.octets.specs.Octets.{Bytes, Block}
 use Rattle.octets.proofs.Xor.{⊕-block}
 use Rattle.octets.proofs.Parts.{part-block}
 use Rattle.aes.proofs.Linear.{double-lt}
-use Rattle.deoxys_bc.specs.Tweakey.{roundConstant, constantBlock, keyPart, joined, flat, expanded}
-use Rattle.deoxys_bc.proofs.Flat.{flat-length}
-use Rattle.deoxys_bc.proofs.Tweakeys.{tk2-block, tk3-block, rounds-small}
+use Rattle.tweakey.specs.Tweakey.{roundConstant, constantBlock, keyPart, joined, flat, expanded}
+use Rattle.tweakey.proofs.Flat.{flat-length}
+use Rattle.tweakey.proofs.Tweakeys.{tk2-block, tk3-block, rounds-small}
 use Rattle.deoxys_bc.proofs.Rounds.{KeyParts}
 
 -- ---- bytes of lists

@@ -12,7 +12,7 @@ use Rattle.octets.specs.Octets.{Bytes, Block, pick, _⊕_, zeroBlock}
 use Rattle.octets.proofs.Xor.{⊕-length, ⊕-bytes, ⊕-back, ⊕-block}
 use Rattle.octets.proofs.Parts.{part-bytes, part-block}
 use Rattle.deoxys_bc.specs.Cipher.{encipher}
-use Rattle.deoxys_bc.specs.declared.Subkeys.{Subkeys}
+use Rattle.tweakey.specs.declared.Subkeys.{Subkeys}
 use Rattle.deoxys_bc.proofs.Rounds.{KeyParts, encipher-block, decipher-block, decipher-encipher, encipher-decipher}
 use Rattle.tweaks.specs.Tweaks.{nonceTweak}
 use Rattle.modes.specs.Rows.{Row, enciphered, deciphered, dataRows, absorbed}

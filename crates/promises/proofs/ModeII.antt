@@ -9,7 +9,7 @@ use lib.ListN.{length, length-append}
 use Rattle.octets.specs.Octets.{Bytes, Block, _⊕_, zeroBlock}
 use Rattle.octets.proofs.Xor.{⊕-length, ⊕-bytes, ⊕-back}
 use Rattle.deoxys_bc.specs.Cipher.{encipher}
-use Rattle.deoxys_bc.specs.declared.Subkeys.{Subkeys}
+use Rattle.tweakey.specs.declared.Subkeys.{Subkeys}
 use Rattle.deoxys_bc.proofs.Rounds.{KeyParts, encipher-block}
 use Rattle.tweaks.specs.Tweaks.{keystreamTweak}
 use Rattle.modes.specs.Rows.{blocks}

@@ -9,8 +9,8 @@ use lib.Dec.{leb}
 use lib.ListN.{length, length-append}
 use borrow.Author.Tests.{leb-true, leb-false}
 use Rattle.octets.specs.Octets.{Bytes, Block, pick}
-use Rattle.deoxys_bc.specs.Tweakey.{expanded}
-use Rattle.deoxys_bc.specs.declared.Subkeys.{Subkeys}
+use Rattle.tweakey.specs.Tweakey.{expanded}
+use Rattle.tweakey.specs.declared.Subkeys.{Subkeys}
 use Rattle.modes.specs.Rows.{Row, deciphered, Outcome, blocks}
 use Rattle.deoxys_i.specs.DeoxysI as I
 use Rattle.deoxys_ii.specs.DeoxysII as II

@@ -10,8 +10,8 @@ use lib.Dec.{eqb}
 use lib.ListN.{length, drop, length-drop}
 use borrow.Author.Tests.{lt-ltb, le-ltb, le-leb, lt-leb}
 use Rattle.octets.specs.Octets.{pick, blocksOf}
-use Rattle.deoxys_bc.specs.Tweakey.{expanded}
-use Rattle.deoxys_bc.specs.declared.Subkeys.{Subkeys}
+use Rattle.tweakey.specs.Tweakey.{expanded}
+use Rattle.tweakey.specs.declared.Subkeys.{Subkeys}
 use Rattle.tweaks.specs.Tweaks.{numbered, nonceTweak, keystreamTweak}
 use Rattle.modes.specs.Rows.{Row, enciphered, Outcome, partialRow, textRows, authRows}
 use Rattle.risk.specs.declared.Label.{Label}

@@ -2,7 +2,7 @@
 -- Assumes nothing.
 use mathlib.Core.Path.{refl}
 use borrow.Author.Needs.{needs}
-use Rattle.deoxys_bc.proofs.Tweakeys.{rounds-small}
+use Rattle.tweakey.proofs.Tweakeys.{rounds-small}
 use Rattle.suites.proofs.Refusals.{good, key-is, nonce-i, nonce-ii}
 use Rattle.deoxys.proofs.Answers.{opened-i, opened-ii}
 use Rattle.deoxys.proofs.recover.Statement.{statement}

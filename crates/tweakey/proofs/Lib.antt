@@ -1,0 +1,2 @@
+pub mod Tweakeys
+pub mod Flat
