@@ -2,7 +2,6 @@
 ghost use mathlib.Core.Path.{_≡_};
 ghost use Prim.Native.Nat.{_+_, _≤_, _<_, _^_};
 ghost use Rattle.deoxys_bc.specs.Cipher.{encipher, decipher};
-
 use tweakey::Subkeys;
 
 // The block cipher calls made so far.

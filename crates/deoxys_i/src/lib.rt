@@ -12,8 +12,8 @@ ghost use Rattle.deoxys_i.specs.Direction.{direction};
 ghost use Rattle.deoxys_i.specs.DeoxysI.{checksum, cryptRows, crypted, sealI, openI};
 use deoxys_bc::Called;
 use deoxys_bc::Count;
-use tweakey::Subkeys;
 use modes::Tagged;
+use tweakey::Subkeys;
 
 const KIND_MESSAGE: u8 = 0;
 

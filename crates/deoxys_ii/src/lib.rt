@@ -10,9 +10,9 @@ ghost use Rattle.modes.specs.Answers.{answered};
 ghost use Rattle.deoxys_ii.specs.DeoxysII.{messageRows, keystreamRows, crypted, sealII, openII};
 use deoxys_bc::Called;
 use deoxys_bc::Count;
-use tweakey::Subkeys;
 use modes::Tagged;
 use modes::Tally;
+use tweakey::Subkeys;
 
 const TWEAK_M: u8 = 0x00;
 
