@@ -8,34 +8,46 @@ fn write(text: &[u8]) {
     io::write_all(libc::STDOUT_FILENO, text);
 }
 
-fn write_number(n: usize) {
+fn write_count(n: usize, of: &[u8]) {
     io::print_decimal(libc::STDOUT_FILENO, n as u64);
+    write(of);
 }
 
-fn write_what(what: What) {
+// Which line of the names below says what differs.
+fn place(what: What) -> usize {
     match what {
-        What::Nothing => write(b"nothing"),
-        What::Number => write(b"number"),
-        What::Tag => write(b"tag"),
-        What::Rows => write(b"rows"),
-        What::Buffer => write(b"buffer"),
-        What::Inputs => write(b"inputs"),
-        What::Form => write(b"form"),
+        What::Nothing => 0,
+        What::Number => 1,
+        What::Tag => 2,
+        What::Rows => 3,
+        What::Buffer => 4,
+        What::Inputs => 5,
+        What::Form => 6,
     }
 }
 
-// Where the first difference is; a line that is no case has no call.
-fn write_first(calls: &[u8], tally: Tally) {
-    write(b", first at line ");
-    write_number(tally.line);
-    write(b": ");
-    let what = tally.what;
+fn write_what(what: What) {
+    write(text::line(b"nothing\nnumber\ntag\nrows\nbuffer\ninputs\nform", place(what)));
+}
+
+// What differed first, and in which call; a line that is no case has none.
+fn write_first(calls: &[u8], what: What, call: usize) {
     write_what(what);
     if let What::Form = what {
         return;
     }
     write(b" in ");
-    write(text::line(calls, tally.call));
+    write(text::line(calls, call));
+}
+
+fn write_differences(calls: &[u8], tally: Tally) {
+    if tally.differ > 0 {
+        write(b", ");
+        write_count(tally.differ, b" differ, first at line ");
+        write_count(tally.line, b": ");
+        let what = tally.what;
+        write_first(calls, what, tally.call);
+    }
 }
 
 // A line for a list. `calls` names the program's calls in the order of their numbers, one to a line.
@@ -44,16 +56,9 @@ pub fn list(name: &[u8], calls: &[u8], tally: Tally) -> Tally
 {
     write(name);
     write(b": ");
-    write_number(tally.cases);
-    write(b" cases, ");
-    write_number(tally.calls);
-    write(b" calls compared");
-    if tally.differ > 0 {
-        write(b", ");
-        write_number(tally.differ);
-        write(b" differ");
-        write_first(calls, tally);
-    }
+    write_count(tally.cases, b" cases, ");
+    write_count(tally.calls, b" calls compared");
+    write_differences(calls, tally);
     write(b"\n");
     tally
 }
@@ -62,11 +67,8 @@ pub fn list(name: &[u8], calls: &[u8], tally: Tally) -> Tally
 pub fn total(tally: Tally) -> Tally
     ensures { λ r. ⌜ r ≡ tally ⌝ }
 {
-    write_number(tally.cases);
-    write(b" cases, ");
-    write_number(tally.calls);
-    write(b" calls, ");
-    write_number(tally.differ);
-    write(b" differ\n");
+    write_count(tally.cases, b" cases, ");
+    write_count(tally.calls, b" calls, ");
+    write_count(tally.differ, b" differ\n");
     tally
 }

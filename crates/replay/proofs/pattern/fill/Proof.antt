@@ -23,13 +23,13 @@ at-requires : tie.Need-at-requires Inv-loop μ-loop
 at-requires c κs = search needs
 
 slice-write-s : tie.Need-slice-write-s Inv-loop μ-loop
-slice-write-s c = search needs
+slice-write-s c = omega arith
 
 add-i : tie.Need-add-i Inv-loop μ-loop
-add-i c = search needs
+add-i c = omega arith
 
 loop-less : tie.Need-loop-less Inv-loop μ-loop
-loop-less c = search needs
+loop-less c = omega arith
 
 loop-again : tie.Need-loop-again Inv-loop μ-loop
 loop-again c = filled-more (c .at .result) (c .before .before .loop .inv) (search needs) (c .at .ensures)

@@ -1,5 +1,6 @@
 -- `replay::text::digit` meets its contract: by the tests on a character.
 -- Assumes nothing.
+use native.Mathlib.Omega.{arith}
 use borrow.Author.Needs.{needs}
 use Rattle.replay.proofs.Spelling.{glyph-low, glyph-high}
 use Rattle.replay.proofs.text.digit.Statement.{statement}
@@ -15,7 +16,7 @@ returns-3 : tie.Need-returns-3
 returns-3 c = search needs
 
 add-result : tie.Need-add-result
-add-result c = search needs
+add-result c = omega arith
 
 returns-4 : tie.Need-returns-4
 returns-4 c = λ h. glyph-high _ (search needs)

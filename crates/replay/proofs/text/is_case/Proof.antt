@@ -1,5 +1,6 @@
 -- `replay::text::is_case` meets its contract: by the test on the length.
 -- Assumes nothing.
+use native.Mathlib.Omega.{arith}
 use borrow.Author.Tests.{eq-eqb, ne-eqb}
 use borrow.Author.Needs.{needs}
 use Rattle.replay.specs.Text.{isCase}
@@ -11,7 +12,7 @@ unfolding isCase
 returns c = simp (eq-eqb _ _ (c .if1 .taken))
 
 shared-slice-read-result : tie.Need-shared-slice-read-result
-shared-slice-read-result c = search needs
+shared-slice-read-result c = omega arith
 
 returns-2 : tie.Need-returns-2
 unfolding isCase

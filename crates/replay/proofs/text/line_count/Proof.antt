@@ -21,22 +21,22 @@ loop-holds : tie.Need-loop-holds Inv-loop μ-loop
 loop-holds c = (search needs, search needs, search needs)
 
 shared-slice-read-if1 : tie.Need-shared-slice-read-if1 Inv-loop μ-loop
-shared-slice-read-if1 c = search needs
+shared-slice-read-if1 c = omega arith
 
 add-ends : tie.Need-add-ends Inv-loop μ-loop
-add-ends c = search needs
+add-ends c = omega arith
 
 add-i : tie.Need-add-i Inv-loop μ-loop
-add-i c = search needs
+add-i c = omega arith
 
 loop-less : tie.Need-loop-less Inv-loop μ-loop
-loop-less c = search needs
+loop-less c = omega arith
 
 loop-again : tie.Need-loop-again Inv-loop μ-loop
 loop-again c = let l = c .before .before .before .loop in let s = c .before .before .before .before .args .text .now in let h : l .i < length s = omega arith in ⊎-elim (λ w. (omega arith, omega (arith, w .1), rw (w .1) (count-more 10 s (l .i) (l .ends) h (l .inv .2) (w .0 .taken)))) (λ w. (omega arith, omega (arith, w .1), rw (w .1) (count-same 10 s (l .i) (l .ends) h (l .inv .2) (w .0 .left)))) (c .if1 .came)
 
 add-result : tie.Need-add-result Inv-loop μ-loop
-add-result c = search needs
+add-result c = omega arith
 
 returns : tie.Need-returns Inv-loop μ-loop
 returns c = let l = c .before .loop in ap (λ (n : ℕ). n + 1) (count-end 10 (c .before .before .args .text .now) (l .i) (l .ends) (search needs) (l .inv .2))

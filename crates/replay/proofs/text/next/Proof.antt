@@ -1,5 +1,6 @@
 -- `replay::text::next` meets its contract: past the separator that was found, or at the text's end.
 -- Assumes nothing.
+use native.Mathlib.Omega.{arith}
 use borrow.Author.Needs.{needs}
 use Rattle.replay.proofs.Spelling.{next-part, no-part}
 use Rattle.replay.proofs.text.next.Statement.{statement}
@@ -9,7 +10,7 @@ find-requires : tie.Need-find-requires
 find-requires c κs = search needs
 
 add-result : tie.Need-add-result
-add-result c = search needs
+add-result c = omega arith
 
 returns : tie.Need-returns
 returns c = (search needs, next-part _ _ _ _ (c .before .find .ensures .0) (c .if1 .taken))

@@ -24,10 +24,10 @@ next-requires : tie.Need-next-requires Inv-loop μ-loop
 next-requires c κs = search needs
 
 add-counter : tie.Need-add-counter Inv-loop μ-loop
-add-counter c = search needs
+add-counter c = omega arith
 
 loop-less : tie.Need-loop-less Inv-loop μ-loop
-loop-less c = search needs
+loop-less c = omega arith
 
 loop-again : tie.Need-loop-again Inv-loop μ-loop
 loop-again c = (search needs, search needs, rw (c .next .ensures .1) (sym (parts-less _ _ _ _ (search needs)) ∙ c .before .before .loop .inv .2))
@@ -36,7 +36,7 @@ find-requires : tie.Need-find-requires Inv-loop μ-loop
 find-requires c κs = search needs
 
 sub-result : tie.Need-sub-result Inv-loop μ-loop
-sub-result c = search needs
+sub-result c = omega arith
 
 part-result-start : tie.Need-part-result-start Inv-loop μ-loop
 part-result-start c = search needs

@@ -2,6 +2,7 @@
 -- Assumes nothing.
 use mathlib.Core.Bool.{false≢true}
 use mathlib.Core.Path.{sym, _∙_}
+use native.Mathlib.Omega.{arith}
 use borrow.Author.Needs.{needs}
 use Rattle.replay.proofs.Spelling.{adds-byte}
 use Rattle.replay.proofs.text.with_byte.Statement.{statement}
@@ -14,16 +15,16 @@ digit-requires-2 : tie.Need-digit-requires-2
 digit-requires-2 c κs = search needs
 
 mul-s : tie.Need-mul-s
-mul-s c = search needs
+mul-s c = omega arith
 
 add-s : tie.Need-add-s
-add-s c = search needs
+add-s c = omega arith
 
 element-write-s : tie.Need-element-write-s
 element-write-s c = search needs
 
 add-s-2 : tie.Need-add-s-2
-add-s-2 c = search needs
+add-s-2 c = omega arith
 
 returns : tie.Need-returns
 returns c = λ e. adds-byte _ _ _ (c .before .if2 .taken) (c .before .before .before .before .digit .ensures (c .before .before .if1 .taken)) (c .before .before .before .digit2 .ensures (c .before .if2 .taken)) (search needs) (c .if3 .taken) e

@@ -1,5 +1,6 @@
 -- `replay::text::with_digit` meets its contract: by the tests on the byte and on the number before it.
 -- Assumes nothing.
+use native.Mathlib.Omega.{arith}
 use borrow.Author.Tests.{le-leb, lt-leb}
 use borrow.Author.Needs.{needs}
 use Rattle.replay.specs.Text.{withDigit}
@@ -7,13 +8,13 @@ use Rattle.replay.proofs.text.with_digit.Statement.{statement}
 use Rattle.replay.proofs.text.with_digit.Tie as tie
 
 mul-t6 : tie.Need-mul-t6
-mul-t6 c = search needs
+mul-t6 c = omega arith
 
 cast-t8 : tie.Need-cast-t8
-cast-t8 c = search needs
+cast-t8 c = omega arith
 
 add-t9 : tie.Need-add-t9
-add-t9 c = search needs
+add-t9 c = omega arith
 
 returns : tie.Need-returns
 unfolding withDigit

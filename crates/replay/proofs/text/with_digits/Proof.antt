@@ -28,31 +28,31 @@ loop-holds : tie.Need-loop-holds Inv-loop μ-loop
 loop-holds c = (search needs, adds-none _ (search needs))
 
 mul-with-byte : tie.Need-mul-with-byte Inv-loop μ-loop
-mul-with-byte c = search needs
+mul-with-byte c = omega arith
 
 shared-slice-read-with-byte : tie.Need-shared-slice-read-with-byte Inv-loop μ-loop
-shared-slice-read-with-byte c = search needs
+shared-slice-read-with-byte c = omega arith
 
 mul-with-byte-2 : tie.Need-mul-with-byte-2 Inv-loop μ-loop
-mul-with-byte-2 c = search needs
+mul-with-byte-2 c = omega arith
 
 add-with-byte : tie.Need-add-with-byte Inv-loop μ-loop
-add-with-byte c = search needs
+add-with-byte c = omega arith
 
 shared-slice-read-with-byte-2 : tie.Need-shared-slice-read-with-byte-2 Inv-loop μ-loop
-shared-slice-read-with-byte-2 c = search needs
+shared-slice-read-with-byte-2 c = omega arith
 
 with-byte-requires : tie.Need-with-byte-requires Inv-loop μ-loop
 with-byte-requires c κs = search needs
 
 add-i : tie.Need-add-i Inv-loop μ-loop
-add-i c = search needs
+add-i c = omega arith
 
 loop-less : tie.Need-loop-less Inv-loop μ-loop
-loop-less c = search needs
+loop-less c = omega arith
 
 loop-again : tie.Need-loop-again Inv-loop μ-loop
-loop-again c = let l = c .before .before .before .before .loop in (search needs, λ e. let a = c .with-byte .ensures e in rw (two-more (c .before .before .before .before .before .before .before .args .field .now) (l .i) (search needs)) (adds-more (l .inv .1 (a .good)) a))
+loop-again c = let l = c .before .before .before .before .loop in (search needs, λ e. let a = c .with-byte .ensures e in rw (two-more (c .before .before .before .before .before .before .before .args .field .now) (l .i) (omega arith)) (adds-more (l .inv .1 (a .good)) a))
 
 returns-2 : tie.Need-returns-2 Inv-loop μ-loop
 returns-2 c = λ e. let l = c .before .loop in let f = c .before .before .before .before .args .field .now in let h : length f ≤ 2 * l .i = omega arith in rw (take-all (2 * l .i) f h) at (l .inv .1 e)
