@@ -3,11 +3,10 @@ ghost use mathlib.Core.Path.{_≡_};
 ghost use mathlib.Core.List.{_++_};
 ghost use Prim.Native.Nat.{_-_, _≤_, _<_};
 ghost use lib.ListN.{length, replicate};
-use crate::tally::Call;
-use crate::tally::Seen;
-use crate::tally::Tally;
-use crate::tally::What;
-use crate::text;
+use replay::tally::Seen;
+use replay::tally::Tally;
+use replay::tally::What;
+use replay::text;
 
 // The parts of a vector, in the order of a line.
 pub const KEY: usize = 0;
@@ -37,6 +36,13 @@ const BEFORE: usize = 8;
 const ROOM: usize = 80;
 
 const WRONG_TAG: u8 = 7;
+
+// The numbers of the calls; an opening with a changed part has the part's number after the last.
+const SEALING: usize = 0;
+
+const OPENING: usize = 1;
+
+const CHANGED: usize = 2;
 
 // A vector: its parts one after the other, where each starts and the last ends, and the number of rows.
 struct Case {
@@ -80,10 +86,13 @@ fn read(line: &[u8]) -> Case {
     c
 }
 
-// A part of the bytes, none where there is no such part or it is too long.
-fn part(s: &[u8], from: usize, to: usize) -> &[u8]
+// Part `k` of the bytes, none where there is no such part or it is too long.
+fn part<'a>(s: &'a [u8], cuts: &[usize; 7], k: usize) -> &'a [u8]
+    requires { ⌜ k < 6 ⌝ }
     ensures { λ r. ⌜ length (now r) ≤ 64 ⌝ }
 {
+    let from = cuts[k];
+    let to = cuts[k + 1];
     if from <= to {
         if to <= s.len() {
             if to - from <= LONGEST {
@@ -119,22 +128,22 @@ fn sealing(c: Case) -> What {
     let kept = bytes;
     let cuts = c.cuts;
     let s = &bytes[..];
-    let message = part(s, cuts[MESSAGE], cuts[CIPHERTEXT]);
-    let wanted = laid_out(part(s, cuts[CIPHERTEXT], cuts[TAG]));
+    let message = part(s, &cuts, MESSAGE);
+    let wanted = laid_out(part(s, &cuts, CIPHERTEXT));
     let mut room = laid_out(message);
     let end = BEFORE + message.len();
     let answer = deoxys::seal(
         c.suite,
-        part(s, cuts[KEY], cuts[NONCE]),
-        part(s, cuts[NONCE], cuts[DATA]),
-        part(s, cuts[DATA], cuts[MESSAGE]),
+        part(s, &cuts, KEY),
+        part(s, &cuts, NONCE),
+        part(s, &cuts, DATA),
         &mut room[BEFORE..end],
     );
     let tag = answer.tag;
     let seen = Seen {
         number: answer.number,
         rows: answer.rows,
-        tag: check::same(&tag, part(s, cuts[TAG], cuts[PARTS])),
+        tag: check::same(&tag, part(s, &cuts, TAG)),
         buffer: same_rooms(&room, &wanted),
         inputs: same_bytes(s, &kept),
     };
@@ -146,16 +155,16 @@ fn opening(c: Case, number: u8, wanted: [u8; ROOM]) -> What {
     let kept = bytes;
     let cuts = c.cuts;
     let s = &bytes[..];
-    let ciphertext = part(s, cuts[CIPHERTEXT], cuts[TAG]);
+    let ciphertext = part(s, &cuts, CIPHERTEXT);
     let mut room = laid_out(ciphertext);
     let end = BEFORE + ciphertext.len();
     let answer = deoxys::open(
         c.suite,
-        part(s, cuts[KEY], cuts[NONCE]),
-        part(s, cuts[NONCE], cuts[DATA]),
-        part(s, cuts[DATA], cuts[MESSAGE]),
+        part(s, &cuts, KEY),
+        part(s, &cuts, NONCE),
+        part(s, &cuts, DATA),
         &mut room[BEFORE..end],
-        part(s, cuts[TAG], cuts[PARTS]),
+        part(s, &cuts, TAG),
     );
     let seen = Seen {
         number: answer.number,
@@ -171,14 +180,14 @@ fn opening(c: Case, number: u8, wanted: [u8; ROOM]) -> What {
 fn with_message(c: Case) -> [u8; ROOM] {
     let bytes = c.bytes;
     let cuts = c.cuts;
-    laid_out(part(&bytes, cuts[MESSAGE], cuts[CIPHERTEXT]))
+    laid_out(part(&bytes, &cuts, MESSAGE))
 }
 
 // What a buffer is to hold after a wrong tag.
 fn with_zeros(c: Case) -> [u8; ROOM] {
     let bytes = [0u8; BYTES];
     let cuts = c.cuts;
-    laid_out(part(&bytes, cuts[CIPHERTEXT], cuts[TAG]))
+    laid_out(part(&bytes, &cuts, CIPHERTEXT))
 }
 
 // With this factor the cases of lengths.txt change every bit of the tag, and in each suite every byte of the key.
@@ -213,7 +222,7 @@ fn changed(c: Case, k: usize, line: usize, tally: Tally) -> Tally
         if to <= BYTES {
             let bit = 8 * from + chosen(tally.cases, 8 * (to - from));
             let what = opening(flipped(c, bit), WRONG_TAG, with_zeros(c));
-            return tally.with_call(line, Call::Changed(k), what);
+            return tally.with_call(line, CHANGED + k, what);
         }
     }
     tally
@@ -225,8 +234,8 @@ pub fn replayed(text: &[u8], line: usize, tally: Tally) -> Tally {
     if !c.good {
         return tally.with_bad_line(line);
     }
-    let mut t = tally.with_call(line, Call::Sealing, sealing(c));
-    t = t.with_call(line, Call::Opening, opening(c, 0, with_message(c)));
+    let mut t = tally.with_call(line, SEALING, sealing(c));
+    t = t.with_call(line, OPENING, opening(c, 0, with_message(c)));
     for k in 0..PARTS {
         if k != MESSAGE {
             t = changed(c, k, line, t);
