@@ -27,7 +27,10 @@ fn place(what: What) -> usize {
 }
 
 fn write_what(what: What) {
-    write(text::line(b"nothing\nnumber\ntag\nrows\nbuffer\ninputs\nform", place(what)));
+    write(text::line(
+        b"nothing\nnumber\ntag\nrows\nbuffer\ninputs\nform",
+        place(what),
+    ));
 }
 
 // What differed first, and in which call; a line that is no case has none.

@@ -27,7 +27,13 @@ fn lines(text: &[u8]) -> Tally {
 fn list(name: &[u8]) -> Tally {
     let mut text = io::large_buffer();
     let n = files::read(name, &mut text);
-    let calls = b"sealing\nopening\nopening with a changed key\nopening with a changed nonce\nopening with a changed data\nopening with a changed message\nopening with a changed ciphertext\nopening with a changed tag";
+    let calls = b"sealing
+opening
+opening with a changed key
+opening with a changed nonce
+opening with a changed data
+opening with a changed ciphertext
+opening with a changed tag";
     report::list(name, calls, lines(&text[..n]))
 }
 

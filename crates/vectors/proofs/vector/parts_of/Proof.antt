@@ -1,9 +1,9 @@
--- `vectors::vector::parts` meets its contract: after k fields k cuts are made, in order.
+-- `vectors::vector::parts_of` meets its contract: after k fields k cuts are made, in order.
 -- Assumes nothing.
 use Prim.Native.Nat.{_-_, _≤_}
 use borrow.Author.Needs.{needs}
-use Rattle.vectors.proofs.vector.parts.Statement.{statement}
-use Rattle.vectors.proofs.vector.parts.Tie as tie
+use Rattle.vectors.proofs.vector.parts_of.Statement.{statement}
+use Rattle.vectors.proofs.vector.parts_of.Tie as tie
 
 abbrev Inv-loop : tie.InvT-loop
 Inv-loop line s₀ cuts₀ k₀ s cuts k = k ≤ 6
@@ -47,8 +47,8 @@ loop-again c = search needs
 returns : tie.Need-returns Inv-loop μ-loop
 returns c = search needs
 
-pub parts-spec : {M : Type 1} → statement M
-parts-spec =
+pub parts-of-spec : {M : Type 1} → statement M
+parts-of-spec =
     tie.close
     (tie.spec
     Inv-loop
