@@ -102,9 +102,11 @@ fn read(line: &[u8]) -> Case {
 
 // Part `k` of the bytes, none where there is no such part or it is too long.
 fn part<'a>(s: &'a [u8], cuts: &[usize; 7], k: usize) -> &'a [u8]
-    requires { ⌜ k < 6 ⌝ }
     ensures { λ r. ⌜ length (now r) ≤ 64 ⌝ }
 {
+    if k >= PARTS {
+        return &s[..0];
+    }
     let from = cuts[k];
     let to = cuts[k + 1];
     if from <= to {
@@ -137,20 +139,27 @@ fn same_bytes(a: &[u8; BYTES], b: &[u8; BYTES]) -> bool {
     check::same(a, b)
 }
 
+fn seal(v: Vector, bytes: &[u8; BYTES], buffer: &mut [u8]) -> deoxys::Sealed {
+    let key = part(bytes, &v.cuts, KEY);
+    let nonce = part(bytes, &v.cuts, NONCE);
+    deoxys::seal(v.suite, key, nonce, part(bytes, &v.cuts, DATA), buffer)
+}
+
+fn open(v: Vector, bytes: &[u8; BYTES], buffer: &mut [u8]) -> deoxys::Opened {
+    let key = part(bytes, &v.cuts, KEY);
+    let nonce = part(bytes, &v.cuts, NONCE);
+    let tag = part(bytes, &v.cuts, TAG);
+    deoxys::open(v.suite, key, nonce, part(bytes, &v.cuts, DATA), buffer, tag)
+}
+
 fn sealing(v: Vector, bytes: &[u8; BYTES]) -> What {
     let kept = *bytes;
     let message = part(bytes, &v.cuts, MESSAGE);
-    let wanted = laid_out(part(bytes, &v.cuts, CIPHERTEXT));
-    let mut room = laid_out(message);
     let end = BEFORE + message.len();
-    let answer = deoxys::seal(
-        v.suite,
-        part(bytes, &v.cuts, KEY),
-        part(bytes, &v.cuts, NONCE),
-        part(bytes, &v.cuts, DATA),
-        &mut room[BEFORE..end],
-    );
+    let mut room = laid_out(message);
+    let answer = seal(v, bytes, &mut room[BEFORE..end]);
     let tag = answer.tag;
+    let wanted = laid_out(part(bytes, &v.cuts, CIPHERTEXT));
     let seen = Seen {
         number: answer.number,
         rows: answer.rows,
@@ -164,16 +173,9 @@ fn sealing(v: Vector, bytes: &[u8; BYTES]) -> What {
 fn opening(v: Vector, bytes: &[u8; BYTES], number: u8, wanted: &[u8; ROOM]) -> What {
     let kept = *bytes;
     let ciphertext = part(bytes, &v.cuts, CIPHERTEXT);
-    let mut room = laid_out(ciphertext);
     let end = BEFORE + ciphertext.len();
-    let answer = deoxys::open(
-        v.suite,
-        part(bytes, &v.cuts, KEY),
-        part(bytes, &v.cuts, NONCE),
-        part(bytes, &v.cuts, DATA),
-        &mut room[BEFORE..end],
-        part(bytes, &v.cuts, TAG),
-    );
+    let mut room = laid_out(ciphertext);
+    let answer = open(v, bytes, &mut room[BEFORE..end]);
     let seen = Seen {
         number: answer.number,
         rows: answer.rows,
