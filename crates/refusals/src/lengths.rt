@@ -1,12 +1,16 @@
 // Calls with the lengths that a line gives, on bytes that follow the pattern.
 ghost use Prim.Native.Nat.{_≤_, _<_};
 ghost use lib.ListN.{length};
-use crate::pattern;
-use crate::tally::Call;
-use crate::tally::Seen;
-use crate::tally::Tally;
-use crate::tally::What;
-use crate::text;
+use replay::pattern;
+use replay::tally::Seen;
+use replay::tally::Tally;
+use replay::tally::What;
+use replay::text;
+
+// The calls by their numbers.
+const SEALING: usize = 0;
+
+const OPENING: usize = 1;
 
 // The key, the nonce and the tag are bytes of the data too, from these places on.
 const KEY: usize = 0;
@@ -35,14 +39,14 @@ struct Attempt {
     good: bool,
 }
 
-// So many numbers of a line, from field `first` on.
-fn read(line: &[u8], first: usize, count: usize) -> Numbers
-    requires { ⌜ (first ≤ 1) × (count ≤ 8) ⌝ }
+// So many numbers of a line, after its first word.
+fn read(line: &[u8], count: usize) -> Numbers
+    requires { ⌜ count ≤ 8 ⌝ }
 {
     let mut values = [0usize; 8];
     let mut good = true;
     for k in 0..count {
-        let n = text::decimal(text::field(line, first + k));
+        let n = text::decimal(text::field(line, k + 1));
         values[k] = n.value;
         good = good && n.good;
     }
@@ -152,7 +156,7 @@ fn refused_opening(a: Attempt, tag: &[u8], data: &[u8], buffer: &mut [u8]) -> Wh
 
 // A line `seal SUITE KEY NONCE DATA MESSAGE NUMBER ROWS`.
 fn seal_line(text: &[u8], line: usize, tally: Tally, data: &[u8], buffer: &mut [u8]) -> Tally {
-    let a = attempt_of(read(text, 1, 7), 5);
+    let a = attempt_of(read(text, 7), 5);
     if !a.good || !text::ends(text, 8) {
         return tally.with_bad_line(line);
     }
@@ -160,12 +164,12 @@ fn seal_line(text: &[u8], line: usize, tally: Tally, data: &[u8], buffer: &mut [
         return tally.with_bad_line(line);
     }
     let what = refused_sealing(a, data, buffer);
-    tally.with_call(line, Call::Sealing, what)
+    tally.with_call(line, SEALING, what)
 }
 
 // A line `open SUITE KEY NONCE DATA CIPHERTEXT TAG NUMBER ROWS`.
 fn open_line(text: &[u8], line: usize, tally: Tally, data: &[u8], buffer: &mut [u8]) -> Tally {
-    let n = read(text, 1, 8);
+    let n = read(text, 8);
     let v = n.values;
     let a = attempt_of(n, 6);
     if !a.good || !text::ends(text, 9) {
@@ -175,18 +179,7 @@ fn open_line(text: &[u8], line: usize, tally: Tally, data: &[u8], buffer: &mut [
         return tally.with_bad_line(line);
     }
     let what = refused_opening(a, taken(data, TAG, v[5]), data, buffer);
-    tally.with_call(line, Call::Opening, what)
-}
-
-// A line of the refusals.
-pub fn refused(text: &[u8], line: usize, tally: Tally, data: &[u8], buffer: &mut [u8]) -> Tally {
-    if check::same(text::field(text, 0), b"seal") {
-        return seal_line(text, line, tally, data, buffer);
-    }
-    if check::same(text::field(text, 0), b"open") {
-        return open_line(text, line, tally, data, buffer);
-    }
-    tally.with_bad_line(line)
+    tally.with_call(line, OPENING, what)
 }
 
 fn limited_sealing(a: Attempt, sum: usize, tag: &[u8], data: &[u8], buffer: &mut [u8]) -> What
@@ -208,24 +201,36 @@ fn limited_opening(a: Attempt, tag: &[u8], data: &[u8], buffer: &mut [u8]) -> Wh
     seen.differs(a.number, a.rows)
 }
 
-// A line `SUITE KEY NONCE DATA MESSAGE NUMBER ROWS SUM TAG` of the limits.
-pub fn limited(text: &[u8], line: usize, tally: Tally, data: &[u8], buffer: &mut [u8]) -> Tally {
-    let n = read(text, 0, 8);
+// A line `both SUITE KEY NONCE DATA MESSAGE NUMBER ROWS SUM TAG`.
+fn both_line(text: &[u8], line: usize, tally: Tally, data: &[u8], buffer: &mut [u8]) -> Tally {
+    let n = read(text, 8);
     let v = n.values;
     let a = attempt_of(n, 5);
-    let spelled = text::with_field(text::nothing(), text::field(text, 8));
+    let spelled = text::with_field(text::nothing(), text::field(text, 9));
     let bytes = spelled.bytes;
     let tag = taken(&bytes, 0, 16);
-    if !a.good || !spelled.good || spelled.length != 16 || !text::ends(text, 9) {
+    if !a.good || !spelled.good || spelled.length != 16 || !text::ends(text, 10) {
         return tally.with_bad_line(line);
     }
     if a.message > buffer.len() {
         return tally.with_bad_line(line);
     }
-    let t = tally.with_call(
-        line,
-        Call::Sealing,
-        limited_sealing(a, v[7], tag, data, buffer),
-    );
-    t.with_call(line, Call::Opening, limited_opening(a, tag, data, buffer))
+    let what = limited_sealing(a, v[7], tag, data, buffer);
+    let t = tally.with_call(line, SEALING, what);
+    t.with_call(line, OPENING, limited_opening(a, tag, data, buffer))
+}
+
+// The case on a line: its first word says what is called.
+pub fn replayed(text: &[u8], line: usize, tally: Tally, data: &[u8], buffer: &mut [u8]) -> Tally {
+    let word = text::field(text, 0);
+    if check::same(word, b"seal") {
+        return seal_line(text, line, tally, data, buffer);
+    }
+    if check::same(word, b"open") {
+        return open_line(text, line, tally, data, buffer);
+    }
+    if check::same(word, b"both") {
+        return both_line(text, line, tally, data, buffer);
+    }
+    tally.with_bad_line(line)
 }
