@@ -1,3 +1,1 @@
-pub mod Spelling
-pub mod Differences
 pub mod Rooms

@@ -3,11 +3,10 @@ ghost use mathlib.Core.Path.{_≡_};
 ghost use mathlib.Core.List.{_++_};
 ghost use Prim.Native.Nat.{_-_, _≤_, _<_};
 ghost use lib.ListN.{length, replicate};
-use crate::tally::Call;
-use crate::tally::Seen;
-use crate::tally::Tally;
-use crate::tally::What;
-use crate::text;
+use replay::tally::Seen;
+use replay::tally::Tally;
+use replay::tally::What;
+use replay::text;
 
 // The parts of a vector, in the order of a line.
 pub const KEY: usize = 0;
@@ -38,17 +37,37 @@ const ROOM: usize = 80;
 
 const WRONG_TAG: u8 = 7;
 
-// A vector: its parts one after the other, where each starts and the last ends, and the number of rows.
-struct Case {
+// The calls by their numbers. From the last on stand the openings with a changed input, in the inputs' order.
+const SEALING: usize = 0;
+
+const OPENING: usize = 1;
+
+const CHANGED: usize = 2;
+
+const INPUTS: usize = 5;
+
+// A vector without its bytes: the suite, where each part starts and the last ends, and the number of rows.
+struct Vector {
     suite: u8,
-    bytes: [u8; BYTES],
     cuts: [usize; 7],
     rows: usize,
+}
+
+// A vector with its bytes, the parts one after the other.
+struct Case {
+    vector: Vector,
+    bytes: [u8; BYTES],
     good: bool,
 }
 
 // The six parts of a line.
-fn parts(line: &[u8]) -> Case {
+struct Parts {
+    cuts: [usize; 7],
+    bytes: [u8; BYTES],
+    good: bool,
+}
+
+fn parts_of(line: &[u8]) -> Parts {
     let mut s = text::nothing();
     let mut cuts = [0usize; 7];
     for k in 0..PARTS {
@@ -56,34 +75,40 @@ fn parts(line: &[u8]) -> Case {
         cuts[k + 1] = s.length;
     }
     let bytes = s.bytes;
-    Case {
-        suite: 0,
-        bytes,
+    Parts {
         cuts,
-        rows: 0,
+        bytes,
         good: s.good,
     }
 }
 
 // The vector on a line.
 fn read(line: &[u8]) -> Case {
-    let mut c = parts(line);
+    let parts = parts_of(line);
+    let cuts = parts.cuts;
+    let bytes = parts.bytes;
     let suite = text::decimal(text::field(line, 0));
     let rows = text::decimal(text::field(line, 7));
-    if suite.value > 255 {
-        c.good = false;
-        return c;
+    Case {
+        vector: Vector {
+            suite: (suite.value % 256) as u8,
+            cuts,
+            rows: rows.value,
+        },
+        bytes,
+        good: parts.good && suite.good && suite.value < 256 && rows.good && text::ends(line, 8),
     }
-    c.suite = suite.value as u8;
-    c.rows = rows.value;
-    c.good = c.good && suite.good && rows.good && text::ends(line, 8);
-    c
 }
 
-// A part of the bytes, none where there is no such part or it is too long.
-fn part(s: &[u8], from: usize, to: usize) -> &[u8]
+// Part `k` of the bytes, none where there is no such part or it is too long.
+fn part<'a>(s: &'a [u8], cuts: &[usize; 7], k: usize) -> &'a [u8]
     ensures { λ r. ⌜ length (now r) ≤ 64 ⌝ }
 {
+    if k >= PARTS {
+        return &s[..0];
+    }
+    let from = cuts[k];
+    let to = cuts[k + 1];
     if from <= to {
         if to <= s.len() {
             if to - from <= LONGEST {
@@ -110,75 +135,68 @@ fn same_rooms(a: &[u8; ROOM], b: &[u8; ROOM]) -> bool {
     check::same(a, b)
 }
 
-fn same_bytes(s: &[u8], kept: &[u8; BYTES]) -> bool {
-    check::same(s, kept)
+fn same_bytes(a: &[u8; BYTES], b: &[u8; BYTES]) -> bool {
+    check::same(a, b)
 }
 
-fn sealing(c: Case) -> What {
-    let bytes = c.bytes;
-    let kept = bytes;
-    let cuts = c.cuts;
-    let s = &bytes[..];
-    let message = part(s, cuts[MESSAGE], cuts[CIPHERTEXT]);
-    let wanted = laid_out(part(s, cuts[CIPHERTEXT], cuts[TAG]));
-    let mut room = laid_out(message);
+fn seal(v: Vector, bytes: &[u8; BYTES], buffer: &mut [u8]) -> deoxys::Sealed {
+    let key = part(bytes, &v.cuts, KEY);
+    let nonce = part(bytes, &v.cuts, NONCE);
+    deoxys::seal(v.suite, key, nonce, part(bytes, &v.cuts, DATA), buffer)
+}
+
+fn open(v: Vector, bytes: &[u8; BYTES], buffer: &mut [u8]) -> deoxys::Opened {
+    let key = part(bytes, &v.cuts, KEY);
+    let nonce = part(bytes, &v.cuts, NONCE);
+    let tag = part(bytes, &v.cuts, TAG);
+    deoxys::open(v.suite, key, nonce, part(bytes, &v.cuts, DATA), buffer, tag)
+}
+
+fn sealing(v: Vector, bytes: &[u8; BYTES]) -> What {
+    let kept = *bytes;
+    let message = part(bytes, &v.cuts, MESSAGE);
     let end = BEFORE + message.len();
-    let answer = deoxys::seal(
-        c.suite,
-        part(s, cuts[KEY], cuts[NONCE]),
-        part(s, cuts[NONCE], cuts[DATA]),
-        part(s, cuts[DATA], cuts[MESSAGE]),
-        &mut room[BEFORE..end],
-    );
+    let mut room = laid_out(message);
+    let answer = seal(v, bytes, &mut room[BEFORE..end]);
     let tag = answer.tag;
+    let wanted = laid_out(part(bytes, &v.cuts, CIPHERTEXT));
     let seen = Seen {
         number: answer.number,
         rows: answer.rows,
-        tag: check::same(&tag, part(s, cuts[TAG], cuts[PARTS])),
+        tag: check::same(&tag, part(bytes, &v.cuts, TAG)),
         buffer: same_rooms(&room, &wanted),
-        inputs: same_bytes(s, &kept),
+        inputs: same_bytes(bytes, &kept),
     };
-    seen.differs(0, c.rows)
+    seen.differs(0, v.rows)
 }
 
-fn opening(c: Case, number: u8, wanted: [u8; ROOM]) -> What {
-    let bytes = c.bytes;
-    let kept = bytes;
-    let cuts = c.cuts;
-    let s = &bytes[..];
-    let ciphertext = part(s, cuts[CIPHERTEXT], cuts[TAG]);
-    let mut room = laid_out(ciphertext);
+fn opening(v: Vector, bytes: &[u8; BYTES], number: u8, wanted: &[u8; ROOM]) -> What {
+    let kept = *bytes;
+    let ciphertext = part(bytes, &v.cuts, CIPHERTEXT);
     let end = BEFORE + ciphertext.len();
-    let answer = deoxys::open(
-        c.suite,
-        part(s, cuts[KEY], cuts[NONCE]),
-        part(s, cuts[NONCE], cuts[DATA]),
-        part(s, cuts[DATA], cuts[MESSAGE]),
-        &mut room[BEFORE..end],
-        part(s, cuts[TAG], cuts[PARTS]),
-    );
+    let mut room = laid_out(ciphertext);
+    let answer = open(v, bytes, &mut room[BEFORE..end]);
     let seen = Seen {
         number: answer.number,
         rows: answer.rows,
         tag: true,
-        buffer: same_rooms(&room, &wanted),
-        inputs: same_bytes(s, &kept),
+        buffer: same_rooms(&room, wanted),
+        inputs: same_bytes(bytes, &kept),
     };
-    seen.differs(number, c.rows)
+    seen.differs(number, v.rows)
 }
 
-// What a buffer is to hold after a good opening.
-fn with_message(c: Case) -> [u8; ROOM] {
-    let bytes = c.bytes;
-    let cuts = c.cuts;
-    laid_out(part(&bytes, cuts[MESSAGE], cuts[CIPHERTEXT]))
+// A good opening leaves the message.
+fn opened(v: Vector, bytes: &[u8; BYTES]) -> What {
+    let wanted = laid_out(part(bytes, &v.cuts, MESSAGE));
+    opening(v, bytes, 0, &wanted)
 }
 
-// What a buffer is to hold after a wrong tag.
-fn with_zeros(c: Case) -> [u8; ROOM] {
-    let bytes = [0u8; BYTES];
-    let cuts = c.cuts;
-    laid_out(part(&bytes, cuts[CIPHERTEXT], cuts[TAG]))
+// A wrong tag leaves zeros.
+fn refused(v: Vector, bytes: &[u8; BYTES]) -> What {
+    let zeros = [0u8; BYTES];
+    let wanted = laid_out(part(&zeros, &v.cuts, CIPHERTEXT));
+    opening(v, bytes, WRONG_TAG, &wanted)
 }
 
 // With this factor the cases of lengths.txt change every bit of the tag, and in each suite every byte of the key.
@@ -193,27 +211,36 @@ fn chosen(n: usize, bits: usize) -> usize
     if n % 2 == 0 { step } else { bits - 1 - step }
 }
 
-// One bit changed, counted from the first of the case's bytes.
-fn flipped(mut c: Case, bit: usize) -> Case
-    requires { ⌜ bit < 2048 ⌝ }
+// The nth case with one bit changed between two places.
+fn flipped(bytes: &[u8; BYTES], from: usize, to: usize, n: usize) -> [u8; BYTES]
+    requires { ⌜ (from < to) × (to ≤ 256) ⌝ }
 {
+    let mut changed = *bytes;
+    let bit = 8 * from + chosen(n, 8 * (to - from));
     let at = bit / 8;
-    c.bytes[at] = c.bytes[at] ^ (128 >> (bit % 8));
-    c
+    changed[at] = changed[at] ^ (128 >> (bit % 8));
+    changed
 }
 
-// An opening with one bit of part `k` changed, where the part is not empty.
-fn changed(c: Case, k: usize, line: usize, tally: Tally) -> Tally
-    requires { ⌜ k < 6 ⌝ }
+// The part that is input `i` of an opening: every part but the message.
+fn input(i: usize) -> usize
+    requires { ⌜ i < 5 ⌝ }
+    ensures { λ r. ⌜ r < 6 ⌝ }
 {
-    let cuts = c.cuts;
-    let from = cuts[k];
-    let to = cuts[k + 1];
+    if i < MESSAGE { i } else { i + 1 }
+}
+
+// An opening with one bit of input `i` changed, where that is not empty.
+fn changed(v: Vector, bytes: &[u8; BYTES], i: usize, line: usize, tally: Tally) -> Tally
+    requires { ⌜ i < 5 ⌝ }
+{
+    let k = input(i);
+    let from = v.cuts[k];
+    let to = v.cuts[k + 1];
     if from < to {
         if to <= BYTES {
-            let bit = 8 * from + chosen(tally.cases, 8 * (to - from));
-            let what = opening(flipped(c, bit), WRONG_TAG, with_zeros(c));
-            return tally.with_call(line, Call::Changed(k), what);
+            let other = flipped(bytes, from, to, tally.cases);
+            return tally.with_call(line, CHANGED + i, refused(v, &other));
         }
     }
     tally
@@ -225,12 +252,12 @@ pub fn replayed(text: &[u8], line: usize, tally: Tally) -> Tally {
     if !c.good {
         return tally.with_bad_line(line);
     }
-    let mut t = tally.with_call(line, Call::Sealing, sealing(c));
-    t = t.with_call(line, Call::Opening, opening(c, 0, with_message(c)));
-    for k in 0..PARTS {
-        if k != MESSAGE {
-            t = changed(c, k, line, t);
-        }
+    let bytes = c.bytes;
+    let v = c.vector;
+    let mut t = tally.with_call(line, SEALING, sealing(v, &bytes));
+    t = t.with_call(line, OPENING, opened(v, &bytes));
+    for i in 0..INPUTS {
+        t = changed(v, &bytes, i, line, t);
     }
     t
 }

@@ -8,13 +8,13 @@ use Rattle.vectors.proofs.vector.chosen.Statement.{statement}
 use Rattle.vectors.proofs.vector.chosen.Tie as tie
 
 mul-step : tie.Need-mul-step
-mul-step c = search needs
+mul-step c = omega arith
 
 rem-step : tie.Need-rem-step
-rem-step c = search needs
+rem-step c = omega arith
 
 sub-result : tie.Need-sub-result
-sub-result c = search needs
+sub-result c = omega arith
 
 sub-result-2 : tie.Need-sub-result-2
 sub-result-2 c = omega (arith, mod-lt (c .before .args .n / 2 % 4096 * 927) (c .before .pre))

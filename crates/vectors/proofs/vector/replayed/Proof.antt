@@ -1,15 +1,16 @@
--- `vectors::vector::replayed` meets its contract: a vector sealed, opened, and opened with each part changed.
+-- `vectors::vector::replayed` meets its contract: a changed input a turn.
 -- Assumes nothing.
 use Prim.Native.Nat.{_-_, _≤_}
+use native.Mathlib.Omega.{arith}
 use borrow.Author.Needs.{needs}
 use Rattle.vectors.proofs.vector.replayed.Statement.{statement}
 use Rattle.vectors.proofs.vector.replayed.Tie as tie
 
 abbrev Inv-loop : tie.InvT-loop
-Inv-loop text line c t₀ k₀ t k = k ≤ 6
+Inv-loop text line bytes v t₀ i₀ t i = i ≤ 5
 
 abbrev μ-loop : tie.MeasureT-loop
-μ-loop text line c t₀ k₀ t k = 6 - k
+μ-loop text line bytes v t₀ i₀ t i = 5 - i
 
 read-requires : tie.Need-read-requires Inv-loop μ-loop
 read-requires c κs = search needs
@@ -26,11 +27,8 @@ sealing-requires c κs = search needs
 with-call-requires : tie.Need-with-call-requires Inv-loop μ-loop
 with-call-requires c κs = search needs
 
-with-message-requires : tie.Need-with-message-requires Inv-loop μ-loop
-with-message-requires c κs = search needs
-
-opening-requires : tie.Need-opening-requires Inv-loop μ-loop
-opening-requires c κs = search needs
+opened-requires : tie.Need-opened-requires Inv-loop μ-loop
+opened-requires c κs = search needs
 
 with-call-requires-2 : tie.Need-with-call-requires-2 Inv-loop μ-loop
 with-call-requires-2 c κs = search needs
@@ -41,14 +39,14 @@ loop-holds c = search needs
 changed-requires : tie.Need-changed-requires Inv-loop μ-loop
 changed-requires c κs = search needs
 
-add-k : tie.Need-add-k Inv-loop μ-loop
-add-k c = search needs
+add-i : tie.Need-add-i Inv-loop μ-loop
+add-i c = omega arith
 
 loop-less : tie.Need-loop-less Inv-loop μ-loop
-loop-less c = search needs
+loop-less c = omega arith
 
 loop-again : tie.Need-loop-again Inv-loop μ-loop
-loop-again c = search needs
+loop-again c = omega arith
 
 returns-2 : tie.Need-returns-2 Inv-loop μ-loop
 returns-2 c = search needs
@@ -64,12 +62,11 @@ replayed-spec =
     returns
     sealing-requires
     with-call-requires
-    with-message-requires
-    opening-requires
+    opened-requires
     with-call-requires-2
     loop-holds
     changed-requires
-    add-k
+    add-i
     loop-less
     loop-again
     returns-2)

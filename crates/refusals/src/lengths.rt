@@ -1,0 +1,236 @@
+// Calls with the lengths that a line gives, on bytes that follow the pattern.
+ghost use Prim.Native.Nat.{_≤_, _<_};
+ghost use lib.ListN.{length};
+use replay::pattern;
+use replay::tally::Seen;
+use replay::tally::Tally;
+use replay::tally::What;
+use replay::text;
+
+// The calls by their numbers.
+const SEALING: usize = 0;
+
+const OPENING: usize = 1;
+
+// The key, the nonce and the tag are bytes of the data too, from these places on.
+const KEY: usize = 0;
+
+const NONCE: usize = 40;
+
+const TAG: usize = 64;
+
+const WRONG_TAG: u8 = 7;
+
+// The numbers that a line spells, one after the other.
+struct Numbers {
+    values: [usize; 8],
+    good: bool,
+}
+
+// A suite, lengths, and the number and the rows that are wanted.
+struct Attempt {
+    suite: u8,
+    key: usize,
+    nonce: usize,
+    data: usize,
+    message: usize,
+    number: u8,
+    rows: usize,
+    good: bool,
+}
+
+// So many numbers of a line, after its first word.
+fn read(line: &[u8], count: usize) -> Numbers
+    requires { ⌜ count ≤ 8 ⌝ }
+{
+    let mut values = [0usize; 8];
+    let mut good = true;
+    for k in 0..count {
+        let n = text::decimal(text::field(line, k + 1));
+        values[k] = n.value;
+        good = good && n.good;
+    }
+    Numbers { values, good }
+}
+
+fn byte(n: usize) -> u8 {
+    (n % 256) as u8
+}
+
+// The first five numbers are the suite and the lengths; the wanted number and rows stand at `wanted`.
+fn attempt_of(n: Numbers, wanted: usize) -> Attempt
+    requires { ⌜ wanted < 7 ⌝ }
+{
+    let v = n.values;
+    Attempt {
+        suite: byte(v[0]),
+        key: v[1],
+        nonce: v[2],
+        data: v[3],
+        message: v[4],
+        number: byte(v[wanted]),
+        rows: v[wanted + 1],
+        good: n.good && v[0] < 256 && v[wanted] < 256,
+    }
+}
+
+// So many bytes from a place on; none where there are not so many.
+fn taken(s: &[u8], from: usize, n: usize) -> &[u8] {
+    if from <= s.len() {
+        if n <= s.len() - from {
+            return &s[from..from + n];
+        }
+    }
+    &s[..0]
+}
+
+fn sealed(a: Attempt, wanted: &[u8], data: &[u8], buffer: &mut [u8]) -> Seen
+    requires { ⌜ a .message ≤ length (now buffer) ⌝ }
+{
+    let m = a.message;
+    let key = taken(data, KEY, a.key);
+    let nonce = taken(data, NONCE, a.nonce);
+    let answer = deoxys::seal(
+        a.suite,
+        key,
+        nonce,
+        taken(data, 0, a.data),
+        &mut buffer[0..m],
+    );
+    let tag = answer.tag;
+    Seen {
+        number: answer.number,
+        rows: answer.rows,
+        tag: check::same(&tag, wanted),
+        buffer: pattern::stayed(buffer, m, pattern::BUFFER),
+        inputs: pattern::stayed(data, 0, pattern::DATA),
+    }
+}
+
+fn opened(a: Attempt, tag: &[u8], data: &[u8], buffer: &mut [u8]) -> Seen
+    requires { ⌜ a .message ≤ length (now buffer) ⌝ }
+{
+    let m = a.message;
+    let key = taken(data, KEY, a.key);
+    let nonce = taken(data, NONCE, a.nonce);
+    let answer = deoxys::open(
+        a.suite,
+        key,
+        nonce,
+        taken(data, 0, a.data),
+        &mut buffer[0..m],
+        tag,
+    );
+    Seen {
+        number: answer.number,
+        rows: answer.rows,
+        tag: true,
+        buffer: pattern::stayed(buffer, m, pattern::BUFFER),
+        inputs: pattern::stayed(data, 0, pattern::DATA),
+    }
+}
+
+fn refused_sealing(a: Attempt, data: &[u8], buffer: &mut [u8]) -> What
+    requires { ⌜ a .message ≤ length (now buffer) ⌝ }
+{
+    pattern::fill(buffer, pattern::BUFFER);
+    let mut seen = sealed(a, &[0u8; 16], data, buffer);
+    seen.buffer = pattern::stayed(buffer, 0, pattern::BUFFER);
+    seen.differs(a.number, a.rows)
+}
+
+// A wrong tag leaves zeros, every other refusal the buffer as it was.
+fn refused_opening(a: Attempt, tag: &[u8], data: &[u8], buffer: &mut [u8]) -> What
+    requires { ⌜ a .message ≤ length (now buffer) ⌝ }
+{
+    pattern::fill(buffer, pattern::BUFFER);
+    let mut seen = opened(a, tag, data, buffer);
+    let m = a.message;
+    if a.number == WRONG_TAG {
+        seen.buffer = seen.buffer && pattern::zeros(&buffer[0..m]);
+    } else {
+        seen.buffer = pattern::stayed(buffer, 0, pattern::BUFFER);
+    }
+    seen.differs(a.number, a.rows)
+}
+
+// A line `seal SUITE KEY NONCE DATA MESSAGE NUMBER ROWS`.
+fn seal_line(text: &[u8], line: usize, tally: Tally, data: &[u8], buffer: &mut [u8]) -> Tally {
+    let a = attempt_of(read(text, 7), 5);
+    if !a.good || !text::ends(text, 8) {
+        return tally.with_bad_line(line);
+    }
+    if a.message > buffer.len() {
+        return tally.with_bad_line(line);
+    }
+    let what = refused_sealing(a, data, buffer);
+    tally.with_call(line, SEALING, what)
+}
+
+// A line `open SUITE KEY NONCE DATA CIPHERTEXT TAG NUMBER ROWS`.
+fn open_line(text: &[u8], line: usize, tally: Tally, data: &[u8], buffer: &mut [u8]) -> Tally {
+    let n = read(text, 8);
+    let v = n.values;
+    let a = attempt_of(n, 6);
+    if !a.good || !text::ends(text, 9) {
+        return tally.with_bad_line(line);
+    }
+    if a.message > buffer.len() {
+        return tally.with_bad_line(line);
+    }
+    let what = refused_opening(a, taken(data, TAG, v[5]), data, buffer);
+    tally.with_call(line, OPENING, what)
+}
+
+fn limited_sealing(a: Attempt, sum: usize, tag: &[u8], data: &[u8], buffer: &mut [u8]) -> What
+    requires { ⌜ a .message ≤ length (now buffer) ⌝ }
+{
+    pattern::fill(buffer, pattern::BUFFER);
+    let mut seen = sealed(a, tag, data, buffer);
+    let m = a.message;
+    seen.buffer = seen.buffer && pattern::checksum(&buffer[0..m]) == sum;
+    seen.differs(a.number, a.rows)
+}
+
+// What sealing left in the buffer is opened, or refused with the same number.
+fn limited_opening(a: Attempt, tag: &[u8], data: &[u8], buffer: &mut [u8]) -> What
+    requires { ⌜ a .message ≤ length (now buffer) ⌝ }
+{
+    let mut seen = opened(a, tag, data, buffer);
+    seen.buffer = pattern::stayed(buffer, 0, pattern::BUFFER);
+    seen.differs(a.number, a.rows)
+}
+
+// A line `both SUITE KEY NONCE DATA MESSAGE NUMBER ROWS SUM TAG`.
+fn both_line(text: &[u8], line: usize, tally: Tally, data: &[u8], buffer: &mut [u8]) -> Tally {
+    let n = read(text, 8);
+    let v = n.values;
+    let a = attempt_of(n, 5);
+    let spelled = text::with_field(text::nothing(), text::field(text, 9));
+    let bytes = spelled.bytes;
+    let tag = taken(&bytes, 0, 16);
+    if !a.good || !spelled.good || spelled.length != 16 || !text::ends(text, 10) {
+        return tally.with_bad_line(line);
+    }
+    if a.message > buffer.len() {
+        return tally.with_bad_line(line);
+    }
+    let what = limited_sealing(a, v[7], tag, data, buffer);
+    let t = tally.with_call(line, SEALING, what);
+    t.with_call(line, OPENING, limited_opening(a, tag, data, buffer))
+}
+
+// The case on a line: its first word says what is called.
+pub fn replayed(text: &[u8], line: usize, tally: Tally, data: &[u8], buffer: &mut [u8]) -> Tally {
+    let word = text::field(text, 0);
+    if check::same(word, b"seal") {
+        return seal_line(text, line, tally, data, buffer);
+    }
+    if check::same(word, b"open") {
+        return open_line(text, line, tally, data, buffer);
+    }
+    if check::same(word, b"both") {
+        return both_line(text, line, tally, data, buffer);
+    }
+    tally.with_bad_line(line)
+}

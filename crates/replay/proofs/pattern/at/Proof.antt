@@ -1,0 +1,21 @@
+-- `replay::pattern::at` meets its contract: the byte of the pattern at a place.
+-- Assumes nothing.
+use mathlib.Core.Path.{refl}
+use native.Mathlib.Omega.{arith}
+use borrow.Author.Needs.{needs}
+use Rattle.replay.specs.Pattern.{patternAt}
+use Rattle.replay.proofs.pattern.at.Statement.{statement}
+use Rattle.replay.proofs.pattern.at.Tie as tie
+
+cast-result : tie.Need-cast-result
+cast-result c = omega arith
+
+cast-result-2 : tie.Need-cast-result-2
+cast-result-2 c = omega arith
+
+returns : tie.Need-returns
+unfolding patternAt
+returns c = refl
+
+pub at-spec : {M : Type 1} → statement M
+at-spec = tie.close (tie.spec cast-result cast-result-2 returns)

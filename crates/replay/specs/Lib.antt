@@ -1,0 +1,3 @@
+pub mod Pattern
+pub mod Tally
+pub mod Text
