@@ -21,12 +21,6 @@ const TAG: usize = 64;
 
 const WRONG_TAG: u8 = 7;
 
-// The numbers that a line spells, one after the other.
-struct Numbers {
-    values: [usize; 8],
-    good: bool,
-}
-
 // A suite, lengths, and the number and the rows that are wanted.
 struct Attempt {
     suite: u8,
@@ -39,38 +33,43 @@ struct Attempt {
     good: bool,
 }
 
-// So many numbers of a line, after its first word.
-fn read(line: &[u8], count: usize) -> Numbers
+fn number(line: &[u8], k: usize) -> usize {
+    let n = text::decimal(text::field(line, k));
+    n.value
+}
+
+// Whether the first so many fields after the word are numbers.
+fn are_numbers(line: &[u8], count: usize) -> bool
     requires { ⌜ count ≤ 8 ⌝ }
 {
-    let mut values = [0usize; 8];
-    let mut good = true;
     for k in 0..count {
         let n = text::decimal(text::field(line, k + 1));
-        values[k] = n.value;
-        good = good && n.good;
+        if !n.good {
+            return false;
+        }
     }
-    Numbers { values, good }
+    true
 }
 
 fn byte(n: usize) -> u8 {
     (n % 256) as u8
 }
 
-// The first five numbers are the suite and the lengths; the wanted number and rows stand at `wanted`.
-fn attempt_of(n: Numbers, wanted: usize) -> Attempt
-    requires { ⌜ wanted < 7 ⌝ }
+// Suite and lengths are fields 1 to 5; the wanted number and rows stand at `wanted`. So many fields are numbers.
+fn attempt_of(line: &[u8], wanted: usize, count: usize) -> Attempt
+    requires { ⌜ (wanted ≤ 7) × (count ≤ 8) ⌝ }
 {
-    let v = n.values;
+    let suite = number(line, 1);
+    let refusal = number(line, wanted);
     Attempt {
-        suite: byte(v[0]),
-        key: v[1],
-        nonce: v[2],
-        data: v[3],
-        message: v[4],
-        number: byte(v[wanted]),
-        rows: v[wanted + 1],
-        good: n.good && v[0] < 256 && v[wanted] < 256,
+        suite: byte(suite),
+        key: number(line, 2),
+        nonce: number(line, 3),
+        data: number(line, 4),
+        message: number(line, 5),
+        number: byte(refusal),
+        rows: number(line, wanted + 1),
+        good: are_numbers(line, count) && suite < 256 && refusal < 256,
     }
 }
 
@@ -156,7 +155,7 @@ fn refused_opening(a: Attempt, tag: &[u8], data: &[u8], buffer: &mut [u8]) -> Wh
 
 // A line `seal SUITE KEY NONCE DATA MESSAGE NUMBER ROWS`.
 fn seal_line(text: &[u8], line: usize, tally: Tally, data: &[u8], buffer: &mut [u8]) -> Tally {
-    let a = attempt_of(read(text, 7), 5);
+    let a = attempt_of(text, 6, 7);
     if !a.good || !text::ends(text, 8) {
         return tally.with_bad_line(line);
     }
@@ -169,16 +168,14 @@ fn seal_line(text: &[u8], line: usize, tally: Tally, data: &[u8], buffer: &mut [
 
 // A line `open SUITE KEY NONCE DATA CIPHERTEXT TAG NUMBER ROWS`.
 fn open_line(text: &[u8], line: usize, tally: Tally, data: &[u8], buffer: &mut [u8]) -> Tally {
-    let n = read(text, 8);
-    let v = n.values;
-    let a = attempt_of(n, 6);
+    let a = attempt_of(text, 7, 8);
     if !a.good || !text::ends(text, 9) {
         return tally.with_bad_line(line);
     }
     if a.message > buffer.len() {
         return tally.with_bad_line(line);
     }
-    let what = refused_opening(a, taken(data, TAG, v[5]), data, buffer);
+    let what = refused_opening(a, taken(data, TAG, number(text, 6)), data, buffer);
     tally.with_call(line, OPENING, what)
 }
 
@@ -203,9 +200,7 @@ fn limited_opening(a: Attempt, tag: &[u8], data: &[u8], buffer: &mut [u8]) -> Wh
 
 // A line `both SUITE KEY NONCE DATA MESSAGE NUMBER ROWS SUM TAG`.
 fn both_line(text: &[u8], line: usize, tally: Tally, data: &[u8], buffer: &mut [u8]) -> Tally {
-    let n = read(text, 8);
-    let v = n.values;
-    let a = attempt_of(n, 5);
+    let a = attempt_of(text, 6, 8);
     let spelled = text::with_field(text::nothing(), text::field(text, 9));
     let bytes = spelled.bytes;
     let tag = taken(&bytes, 0, 16);
@@ -215,7 +210,7 @@ fn both_line(text: &[u8], line: usize, tally: Tally, data: &[u8], buffer: &mut [
     if a.message > buffer.len() {
         return tally.with_bad_line(line);
     }
-    let what = limited_sealing(a, v[7], tag, data, buffer);
+    let what = limited_sealing(a, number(text, 8), tag, data, buffer);
     let t = tally.with_call(line, SEALING, what);
     t.with_call(line, OPENING, limited_opening(a, tag, data, buffer))
 }

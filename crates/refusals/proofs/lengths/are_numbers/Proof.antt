@@ -1,16 +1,16 @@
--- `refusals::lengths::read` meets its contract: the numbers of a line, one after the other.
+-- `refusals::lengths::are_numbers` meets its contract: a field a turn.
 -- Assumes nothing.
 use Prim.Native.Nat.{_-_, _≤_}
 use native.Mathlib.Omega.{arith}
 use borrow.Author.Needs.{needs}
-use Rattle.refusals.proofs.lengths.read.Statement.{statement}
-use Rattle.refusals.proofs.lengths.read.Tie as tie
+use Rattle.refusals.proofs.lengths.are_numbers.Statement.{statement}
+use Rattle.refusals.proofs.lengths.are_numbers.Tie as tie
 
 abbrev Inv-loop : tie.InvT-loop
-Inv-loop line count values₀ good₀ k₀ values good k = k ≤ count
+Inv-loop line count k₀ k = k ≤ count
 
 abbrev μ-loop : tie.MeasureT-loop
-μ-loop line count values₀ good₀ k₀ values good k = count - k
+μ-loop line count k₀ k = count - k
 
 loop-holds : tie.Need-loop-holds Inv-loop μ-loop
 loop-holds c = search needs
@@ -24,11 +24,8 @@ field-requires c κs = search needs
 decimal-requires : tie.Need-decimal-requires Inv-loop μ-loop
 decimal-requires c κs = search needs
 
-mul-values : tie.Need-mul-values Inv-loop μ-loop
-mul-values c = omega arith
-
-array-write-values : tie.Need-array-write-values Inv-loop μ-loop
-array-write-values c = omega arith
+returns : tie.Need-returns Inv-loop μ-loop
+returns c = search needs
 
 add-k : tie.Need-add-k Inv-loop μ-loop
 add-k c = omega arith
@@ -39,11 +36,11 @@ loop-less c = omega arith
 loop-again : tie.Need-loop-again Inv-loop μ-loop
 loop-again c = search needs
 
-returns : tie.Need-returns Inv-loop μ-loop
-returns c = search needs
+returns-2 : tie.Need-returns-2 Inv-loop μ-loop
+returns-2 c = search needs
 
-pub read-spec : {M : Type 1} → statement M
-read-spec =
+pub are-numbers-spec : {M : Type 1} → statement M
+are-numbers-spec =
     tie.close
     (tie.spec
     Inv-loop
@@ -52,9 +49,8 @@ read-spec =
     add-field
     field-requires
     decimal-requires
-    mul-values
-    array-write-values
+    returns
     add-k
     loop-less
     loop-again
-    returns)
+    returns-2)
