@@ -40,7 +40,7 @@ isCase s = pick (eqb (length s) 0) false (not (eqb (getD s 0 0) 35))
 abbrev pub noNumber : Number
 noNumber = record { value = 0; good = false }
 
--- one digit more, to nine in all
+-- one digit more, of a number below a thousand million
 unfoldable pub withDigit : Number → ℕ → Number
 withDigit n b =
     pick (leb 48 b)
