@@ -55,9 +55,9 @@ fn byte(n: usize) -> u8 {
     (n % 256) as u8
 }
 
-// Suite and lengths are fields 1 to 5; the wanted number and rows stand at `wanted`. So many fields are numbers.
-fn attempt_of(line: &[u8], wanted: usize, count: usize) -> Attempt
-    requires { ⌜ (wanted ≤ 7) × (count ≤ 8) ⌝ }
+// Suite and lengths are fields 1 to 5; the wanted number and rows stand at `wanted`, and every field to there is a number.
+fn attempt_of(line: &[u8], wanted: usize) -> Attempt
+    requires { ⌜ wanted ≤ 7 ⌝ }
 {
     let suite = number(line, 1);
     let refusal = number(line, wanted);
@@ -69,7 +69,7 @@ fn attempt_of(line: &[u8], wanted: usize, count: usize) -> Attempt
         message: number(line, 5),
         number: byte(refusal),
         rows: number(line, wanted + 1),
-        good: are_numbers(line, count) && suite < 256 && refusal < 256,
+        good: are_numbers(line, wanted + 1) && suite < 256 && refusal < 256,
     }
 }
 
@@ -83,19 +83,23 @@ fn taken(s: &[u8], from: usize, n: usize) -> &[u8] {
     &s[..0]
 }
 
+fn seal(a: Attempt, data: &[u8], buffer: &mut [u8]) -> deoxys::Sealed {
+    let key = taken(data, KEY, a.key);
+    let nonce = taken(data, NONCE, a.nonce);
+    deoxys::seal(a.suite, key, nonce, taken(data, 0, a.data), buffer)
+}
+
+fn open(a: Attempt, tag: &[u8], data: &[u8], buffer: &mut [u8]) -> deoxys::Opened {
+    let key = taken(data, KEY, a.key);
+    let nonce = taken(data, NONCE, a.nonce);
+    deoxys::open(a.suite, key, nonce, taken(data, 0, a.data), buffer, tag)
+}
+
 fn sealed(a: Attempt, wanted: &[u8], data: &[u8], buffer: &mut [u8]) -> Seen
     requires { ⌜ a .message ≤ length (now buffer) ⌝ }
 {
     let m = a.message;
-    let key = taken(data, KEY, a.key);
-    let nonce = taken(data, NONCE, a.nonce);
-    let answer = deoxys::seal(
-        a.suite,
-        key,
-        nonce,
-        taken(data, 0, a.data),
-        &mut buffer[0..m],
-    );
+    let answer = seal(a, data, &mut buffer[0..m]);
     let tag = answer.tag;
     Seen {
         number: answer.number,
@@ -110,16 +114,7 @@ fn opened(a: Attempt, tag: &[u8], data: &[u8], buffer: &mut [u8]) -> Seen
     requires { ⌜ a .message ≤ length (now buffer) ⌝ }
 {
     let m = a.message;
-    let key = taken(data, KEY, a.key);
-    let nonce = taken(data, NONCE, a.nonce);
-    let answer = deoxys::open(
-        a.suite,
-        key,
-        nonce,
-        taken(data, 0, a.data),
-        &mut buffer[0..m],
-        tag,
-    );
+    let answer = open(a, tag, data, &mut buffer[0..m]);
     Seen {
         number: answer.number,
         rows: answer.rows,
@@ -155,7 +150,7 @@ fn refused_opening(a: Attempt, tag: &[u8], data: &[u8], buffer: &mut [u8]) -> Wh
 
 // A line `seal SUITE KEY NONCE DATA MESSAGE NUMBER ROWS`.
 fn seal_line(text: &[u8], line: usize, tally: Tally, data: &[u8], buffer: &mut [u8]) -> Tally {
-    let a = attempt_of(text, 6, 7);
+    let a = attempt_of(text, 6);
     if !a.good || !text::ends(text, 8) {
         return tally.with_bad_line(line);
     }
@@ -168,7 +163,7 @@ fn seal_line(text: &[u8], line: usize, tally: Tally, data: &[u8], buffer: &mut [
 
 // A line `open SUITE KEY NONCE DATA CIPHERTEXT TAG NUMBER ROWS`.
 fn open_line(text: &[u8], line: usize, tally: Tally, data: &[u8], buffer: &mut [u8]) -> Tally {
-    let a = attempt_of(text, 7, 8);
+    let a = attempt_of(text, 7);
     if !a.good || !text::ends(text, 9) {
         return tally.with_bad_line(line);
     }
@@ -198,21 +193,37 @@ fn limited_opening(a: Attempt, tag: &[u8], data: &[u8], buffer: &mut [u8]) -> Wh
     seen.differs(a.number, a.rows)
 }
 
+// Sealed, and what that left opened.
+fn both(
+    a: Attempt,
+    sum: usize,
+    tag: &[u8],
+    line: usize,
+    tally: Tally,
+    data: &[u8],
+    buffer: &mut [u8],
+) -> Tally
+    requires { ⌜ a .message ≤ length (now buffer) ⌝ }
+{
+    let what = limited_sealing(a, sum, tag, data, buffer);
+    let t = tally.with_call(line, SEALING, what);
+    t.with_call(line, OPENING, limited_opening(a, tag, data, buffer))
+}
+
 // A line `both SUITE KEY NONCE DATA MESSAGE NUMBER ROWS SUM TAG`.
 fn both_line(text: &[u8], line: usize, tally: Tally, data: &[u8], buffer: &mut [u8]) -> Tally {
-    let a = attempt_of(text, 6, 8);
+    let a = attempt_of(text, 6);
+    let sum = text::decimal(text::field(text, 8));
     let spelled = text::with_field(text::nothing(), text::field(text, 9));
     let bytes = spelled.bytes;
     let tag = taken(&bytes, 0, 16);
-    if !a.good || !spelled.good || spelled.length != 16 || !text::ends(text, 10) {
+    if !a.good || !sum.good || !spelled.good || spelled.length != 16 || !text::ends(text, 10) {
         return tally.with_bad_line(line);
     }
     if a.message > buffer.len() {
         return tally.with_bad_line(line);
     }
-    let what = limited_sealing(a, number(text, 8), tag, data, buffer);
-    let t = tally.with_call(line, SEALING, what);
-    t.with_call(line, OPENING, limited_opening(a, tag, data, buffer))
+    both(a, sum.value, tag, line, tally, data, buffer)
 }
 
 // The case on a line: its first word says what is called.
