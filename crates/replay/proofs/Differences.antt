@@ -6,13 +6,13 @@ use Prim.Native.Nat.{ℕ, _<_}
 use native.Mathlib.Nat.{pos-of-ne-zero}
 use native.Mathlib.Omega.{arith}
 use lib.Dec.{eqb, ltb}
-use borrow.Author.Tests.{eqb-true, eqb-false, ltb-true, ltb-false}
+use borrow.Author.Tests.{eqb-true, eqb-false, ltb-true}
 use Rattle.octets.specs.Octets.{pick}
 use Rattle.replay.specs.declared.tally.Seen.{Seen}
 use Rattle.replay.specs.declared.tally.Tally.{Tally}
 use Rattle.replay.specs.declared.tally.What.{What}
 use Rattle.replay.specs.declared.tally.What.the-variants.{Nothing, Number, Tag, Rows, Buffer, Inputs, Form}
-use Rattle.replay.specs.Tally.{isNothing, firstDifference, plus, none, counted, withCase, withDifference, withCall, withBadLine, withACase, together}
+use Rattle.replay.specs.Tally.{isNothing, firstDifference, plus, counted, withCase, withDifference, withCall, withBadLine, withACase, together}
 
 -- a test that picks nothing held, and so did those after it
 passed : (t : Bool) (rest other : What) → isNothing other ≡ false → pick t rest other ≡ Nothing → (t ≡ true) × (rest ≡ Nothing)

@@ -2,7 +2,6 @@
 -- Assumes nothing.
 use mathlib.Core.Path.{refl}
 use native.Mathlib.Omega.{arith}
-use borrow.Author.Needs.{needs}
 use Rattle.replay.specs.Pattern.{patternAt}
 use Rattle.replay.proofs.pattern.at.Statement.{statement}
 use Rattle.replay.proofs.pattern.at.Tie as tie

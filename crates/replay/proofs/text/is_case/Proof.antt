@@ -2,7 +2,6 @@
 -- Assumes nothing.
 use native.Mathlib.Omega.{arith}
 use borrow.Author.Tests.{eq-eqb, ne-eqb}
-use borrow.Author.Needs.{needs}
 use Rattle.replay.specs.Text.{isCase}
 use Rattle.replay.proofs.text.is_case.Statement.{statement}
 use Rattle.replay.proofs.text.is_case.Tie as tie

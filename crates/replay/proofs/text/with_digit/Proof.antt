@@ -2,7 +2,6 @@
 -- Assumes nothing.
 use native.Mathlib.Omega.{arith}
 use borrow.Author.Tests.{le-leb, lt-leb}
-use borrow.Author.Needs.{needs}
 use Rattle.replay.specs.Text.{withDigit}
 use Rattle.replay.proofs.text.with_digit.Statement.{statement}
 use Rattle.replay.proofs.text.with_digit.Tie as tie

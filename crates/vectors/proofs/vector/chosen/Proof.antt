@@ -3,7 +3,6 @@
 use Prim.Native.Nat.{_*_, _/_, _%_}
 use native.Mathlib.Nat.{mod-lt}
 use native.Mathlib.Omega.{arith}
-use borrow.Author.Needs.{needs}
 use Rattle.vectors.proofs.vector.chosen.Statement.{statement}
 use Rattle.vectors.proofs.vector.chosen.Tie as tie
 
