@@ -1,5 +1,5 @@
 // Calls with the lengths that a line gives, on bytes that follow the pattern.
-ghost use Prim.Native.Nat.{_≤_, _<_};
+ghost use Prim.Native.Nat.{_≤_};
 ghost use lib.ListN.{length};
 use replay::pattern;
 use replay::tally::Seen;

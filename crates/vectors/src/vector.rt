@@ -9,17 +9,17 @@ use replay::tally::What;
 use replay::text;
 
 // The parts of a vector, in the order of a line.
-pub const KEY: usize = 0;
+const KEY: usize = 0;
 
-pub const NONCE: usize = 1;
+const NONCE: usize = 1;
 
-pub const DATA: usize = 2;
+const DATA: usize = 2;
 
-pub const MESSAGE: usize = 3;
+const MESSAGE: usize = 3;
 
-pub const CIPHERTEXT: usize = 4;
+const CIPHERTEXT: usize = 4;
 
-pub const TAG: usize = 5;
+const TAG: usize = 5;
 
 const PARTS: usize = 6;
 
@@ -60,7 +60,7 @@ struct Case {
     good: bool,
 }
 
-// The six parts of a line.
+// The six parts of a line, one after the other, and where each starts and the last ends.
 struct Parts {
     cuts: [usize; 7],
     bytes: [u8; BYTES],
