@@ -1,4 +1,4 @@
--- Deoxys-BC: document 01, "Tweakey", its last paragraphs, which gives the rules of the Deoxys paper (v1.41).
+-- Deoxys-BC: document 01, "Tweakey", its last paragraph, which gives the rules of the Deoxys paper (v1.41).
 -- Assumes nothing.
 use mathlib.Core.List.{List}
 use Prim.Native.Nat.{ℕ, zero, suc}

@@ -13,7 +13,7 @@ use Rattle.tweakey.specs.declared.Subkeys.{Subkeys}
 use Rattle.tweaks.specs.Tweaks.{nonceTweak}
 use Rattle.modes.specs.Rows.{Row, dataRows, absorbed}
 use Rattle.modes.specs.Answers.{answered}
-use Rattle.modes.proofs.Outcomes.{answer}
+use Rattle.modes.proofs.Counts.{answer}
 use Rattle.deoxys_i.specs.DeoxysI.{checksum, cryptRows, crypted, sealI, openI}
 use Rattle.deoxys_i.specs.Direction.{direction}
 

@@ -10,7 +10,7 @@ use Rattle.deoxys_bc.specs.Cipher.{encipher}
 use Rattle.tweakey.specs.declared.Subkeys.{Subkeys}
 use Rattle.modes.specs.Rows.{dataRows, absorbed}
 use Rattle.modes.specs.Answers.{answered}
-use Rattle.modes.proofs.Outcomes.{answer}
+use Rattle.modes.proofs.Counts.{answer}
 use Rattle.deoxys_ii.specs.DeoxysII as II
 
 module _ (k : Subkeys) (nonce ad s : List ℕ) where

@@ -1,4 +1,4 @@
-// The field of FIPS 197, section 4, as far as the code needs it: doubling, and the two substitution tables.
+// FIPS 197: the field (section 4) as far as the code needs it, which is doubling, and both substitution tables (5.1.1, 5.3.2).
 ghost use mathlib.Core.Path.{_≡_};
 ghost use Rattle.field.specs.Field.{double};
 

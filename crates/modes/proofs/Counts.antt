@@ -1,4 +1,4 @@
--- How many rows a text has: its blocks, a partial one counted.
+-- How many rows a text has: its blocks, a partial one counted; and a number of rows as the modes' routines answer it.
 -- Assumes nothing.
 use mathlib.Core.Path.{_≡_, refl}
 use mathlib.Core.List.{List, [], _∷_}
@@ -8,6 +8,7 @@ use lib.ListN.{length, drop, length-drop}
 use Rattle.deoxys_bc.specs.declared.Count.{Count}
 use Rattle.tweakey.specs.declared.Subkeys.{Subkeys}
 use Rattle.modes.specs.Rows.{Row, blocks, partialRow, textRows, authRows}
+use Rattle.modes.specs.declared.Tagged.{Tagged}
 
 pub partial-length : (call : List ℕ → Row) (s : List ℕ) → length s < 16 → length (partialRow call s) ≡ (length s + 15) / 16
 partial-length call [] h = refl
@@ -30,3 +31,7 @@ auth-count k full part s = let p = text-length k full part s (length s / 16) 0 (
 
 pub counted : {m n : ℕ} → m ≡ n → _≡_ {A = Count} (record { rows = m }) (record { rows = n })
 counted e = rw e
+
+-- with a tag
+abbrev pub answer : List ℕ → ℕ → Tagged
+answer tag rows = record { tag = tag; count = record { rows = rows } }

@@ -1,3 +1,2 @@
 pub mod Authenticating
 pub mod Counts
-pub mod Outcomes

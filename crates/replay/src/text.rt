@@ -3,11 +3,11 @@ ghost use mathlib.Core.Path.{_≡_};
 ghost use mathlib.Core.Bool.{true, false};
 ghost use mathlib.Core.List.{[], _∷_};
 ghost use Prim.Native.Nat.{suc, _≤_, _<_};
-ghost use lib.Dec.{eqb};
+ghost use lib.Dec.{ltb};
 ghost use lib.ListN.{length, drop};
 ghost use Rattle.bytes.specs.Bytes.{indexOf};
 ghost use Rattle.io.specs.Digits.{glyph};
-ghost use Rattle.replay.specs.Text.{partOf, lineOf, linesOf, fieldOf, isCase, withDigit, numberOf, hexadecimal, spelling, Fresh, Adds};
+ghost use Rattle.replay.specs.Text.{partOf, countOf, lineOf, linesOf, fieldOf, isCase, withDigit, numberOf, hexadecimal, spelling, Fresh, Adds};
 
 const NO_DIGIT: u8 = 16;
 
@@ -52,17 +52,25 @@ pub fn field(line: &[u8], k: usize) -> &[u8]
     part(line, b' ', k)
 }
 
+// How often a byte stands in a text.
+fn count(text: &[u8], byte: u8) -> usize
+    ensures { λ r. ⌜ r ≡ countOf byte (now (text .entry)) ⌝ }
+    ensures { λ r. ⌜ r ≤ length (now (text .entry)) ⌝ }
+{
+    let mut n = 0;
+    for i in 0..text.len() {
+        if text[i] == byte {
+            n += 1;
+        }
+    }
+    n
+}
+
 // How many lines a text has, the one after the last line end counted.
 pub fn line_count(text: &[u8]) -> usize
     ensures { λ r. ⌜ r ≡ linesOf (now (text .entry)) ⌝ }
 {
-    let mut ends = 0;
-    for i in 0..text.len() {
-        if text[i] == b'\n' {
-            ends += 1;
-        }
-    }
-    ends + 1
+    count(text, b'\n') + 1
 }
 
 // Whether the line is a case: it is not empty and no comment.
@@ -75,11 +83,11 @@ pub fn is_case(line: &[u8]) -> bool
     line[0] != b'#'
 }
 
-// Whether the line has no field past the first so many.
+// Whether the line has no field past the first so many, not even an empty one.
 pub fn ends(line: &[u8], fields: usize) -> bool
-    ensures { λ r. ⌜ r ≡ eqb (length (fieldOf fields (now (line .entry)))) 0 ⌝ }
+    ensures { λ r. ⌜ r ≡ ltb (countOf 32 (now (line .entry))) fields ⌝ }
 {
-    field(line, fields).len() == 0
+    count(line, b' ') < fields
 }
 
 // A number read so far, and whether every byte of it was a digit.

@@ -4,16 +4,12 @@ use mathlib.Core.Path.{_≡_, refl, _∙_}
 use mathlib.Core.Bool.{Bool, true, false, not, false≢true}
 use mathlib.Core.Logic.{_⊎_, inl, inr}
 use Prim.Native.Nat.{ℕ, zero, suc, _≤_, _<_}
-use native.Mathlib.Nat.{suc-ne-zero}
+use native.Mathlib.Nat.{suc-ne-zero, pos-of-ne-zero}
 use native.Mathlib.Omega.{arith}
 use lib.Dec.{leb, ltb}
 use borrow.Author.Tests.{eq-eqb, ne-eqb, lt-ltb, le-ltb, le-leb, lt-leb, leb-true, eqb-true, ltb-false, not-false}
 use Rattle.octets.specs.Octets.{pick}
 use Rattle.suites.specs.Suites.{isSuite, keyLength, nonceLength, refusal}
-
-pub positive : (n : ℕ) → (n ≡ 0 → ⊥) → 0 < n
-positive zero h = absurd (h refl)
-positive (suc n) h = omega arith
 
 -- ---- what the code's tests show
 
@@ -25,11 +21,11 @@ module _ (suite key nonce ad text : ℕ) where
   module _ (h₀ : suite ≡ 0 → ⊥) where
     pub no-suite : 4 < suite → 1 ≡ refusal suite key nonce ad text
     unfolding refusal
-    no-suite h = simp (lt-ltb _ _ (positive suite h₀), lt-leb _ _ h)
+    no-suite h = simp (lt-ltb _ _ (pos-of-ne-zero h₀), lt-leb _ _ h)
 
     module _ (h₁ : suite ≤ 4) where
       suited : isSuite suite ≡ true
-      suited = simp (lt-ltb _ _ (positive suite h₀), le-leb _ _ h₁)
+      suited = simp (lt-ltb _ _ (pos-of-ne-zero h₀), le-leb _ _ h₁)
 
       pub wrong-key : (key ≡ keyLength suite → ⊥) → 2 ≡ refusal suite key nonce ad text
       unfolding refusal

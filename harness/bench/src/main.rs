@@ -3,10 +3,10 @@
 
 mod stopwatch;
 
-use calibration::{SUITES, Suite};
+use calibration::SUITES;
 use cases::Case;
 use std::process::ExitCode;
-use stopwatch::{Operation, Side, Task};
+use stopwatch::{Operation, ROUNDS, Side, Task};
 
 const DATA_LENGTH: usize = 18;
 const MESSAGE_LENGTHS: [usize; 5] = [16, 144, 4096, 65_536, 1_048_576];
@@ -18,16 +18,27 @@ fn main() -> ExitCode {
         );
         return ExitCode::FAILURE;
     }
-    let sides = sides();
     print_heading();
+    let mut tasks = tasks(&sides());
+    for _ in 0..ROUNDS {
+        tasks.iter_mut().for_each(Task::measure);
+    }
+    tasks.iter().for_each(print_row);
+    ExitCode::SUCCESS
+}
+
+/// A task for each row of the table.
+fn tasks(sides: &[Side]) -> Vec<Task> {
+    let mut tasks = Vec::new();
     for suite in &SUITES {
         for operation in [Operation::Sealing, Operation::Opening] {
             for length in MESSAGE_LENGTHS {
-                print_row(suite, operation, length, &sides);
+                let case = Case::new(suite, DATA_LENGTH, length, length as u64);
+                tasks.push(Task::new(case, operation, sides));
             }
         }
     }
-    ExitCode::SUCCESS
+    tasks
 }
 
 /// Ours first, then the crate as far as it can run here.
@@ -50,9 +61,9 @@ fn print_heading() {
         println!("Our side only: DEOXYS_SRC isn't set, so the crate's files are not here.");
     }
     println!(
-        "Nanoseconds a call, medians; {DATA_LENGTH} bytes of data. Every call expands its key, on all \
-         sides. The buffers are filled anew before each measurement, and that isn't timed. A ratio is \
-         our speed over the crate's: above 1, ours is the faster.\n"
+        "Nanoseconds a call, medians of {ROUNDS} rounds over all rows; {DATA_LENGTH} bytes of data. Every \
+         call expands its key, on all sides. The buffers are filled anew before each measurement, and \
+         that isn't timed. A ratio is our speed over the crate's: above 1, ours is the faster.\n"
     );
     println!(
         "| suite | operation | bytes | ours | crate, AES instructions | crate, without \
@@ -61,17 +72,16 @@ fn print_heading() {
     println!("|---|---|---:|---:|---:|---:|---:|---:|");
 }
 
-fn print_row(suite: &'static Suite, operation: Operation, length: usize, sides: &[Side]) {
-    let case = Case::new(suite, DATA_LENGTH, length, length as u64);
-    let medians = Task::new(case, operation).medians(sides);
-    let time = |side| medians.iter().find(|(s, _)| *s == side).map(|(_, time)| *time);
-    let ours = time(Side::Ours);
-    let (with, without) = (time(Side::CrateWithInstructions), time(Side::CrateWithout));
+fn print_row(task: &Task) {
+    let ours = task.median(Side::Ours);
+    let with = task.median(Side::CrateWithInstructions);
+    let without = task.median(Side::CrateWithout);
     let ratio = |crate_time: Option<f64>| crate_time.zip(ours).map(|(theirs, ours)| theirs / ours);
     println!(
-        "| {} | {} | {length} | {} | {} | {} | {} | {} |",
-        suite.name,
-        operation.name(),
+        "| {} | {} | {} | {} | {} | {} | {} | {} |",
+        task.case.suite.name,
+        task.operation.name(),
+        task.case.message.len(),
         shown(ours, 0),
         shown(with, 0),
         shown(without, 0),

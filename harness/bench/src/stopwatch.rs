@@ -1,18 +1,14 @@
-//! One row of the table: a task, timed on each side in turn, so that a slow moment hits all of them.
+//! A task is timed on each side in turn, and all tasks in each round, so that a slow moment of the machine
+//! hits all sides of all rows alike.
 
 use cases::Case;
-use std::{
-    hint::black_box,
-    time::{Duration, Instant},
-};
+use std::{hint::black_box, time::Instant};
 
-/// Forty rows make about a minute.
-const TIME_FOR_A_ROW: Duration = Duration::from_millis(1400);
-const MOST_MEASUREMENTS: usize = 301;
-const FEWEST_MEASUREMENTS: usize = 5;
+/// Rounds over all tasks: some two minutes in all.
+pub const ROUNDS: usize = 61;
 
 /// Short messages are timed many at a time, so that reading the clock doesn't count.
-const BYTES_OF_A_MEASUREMENT: usize = 8192;
+const BYTES_OF_A_MEASUREMENT: usize = 65_536;
 
 #[derive(Clone, Copy, PartialEq, Eq)]
 pub enum Side {
@@ -37,15 +33,17 @@ impl Operation {
 }
 
 pub struct Task {
-    case: Case,
-    operation: Operation,
+    pub case: Case,
+    pub operation: Operation,
     /// What each buffer holds before a call.
     input: Vec<u8>,
     tag: [u8; 16],
+    /// Nanoseconds a call, for each side, one of each round.
+    times: Vec<(Side, Vec<f64>)>,
 }
 
 impl Task {
-    pub fn new(case: Case, operation: Operation) -> Self {
+    pub fn new(case: Case, operation: Operation, sides: &[Side]) -> Self {
         let mut ciphertext = case.message.clone();
         let Case { key, nonce, data, .. } = &case;
         let sealed = calibration::seal(case.suite.number, key, nonce, data, &mut ciphertext);
@@ -54,24 +52,23 @@ impl Task {
             Operation::Sealing => case.message.clone(),
             Operation::Opening => ciphertext,
         };
-        Task { case, operation, input, tag }
+        let times = sides.iter().map(|side| (*side, Vec::new())).collect();
+        Task { case, operation, input, tag, times }
     }
 
-    /// Nanoseconds a call, for each side.
-    pub fn medians(&self, sides: &[Side]) -> Vec<(Side, f64)> {
+    /// One measurement more on each side.
+    pub fn measure(&mut self) {
         let calls = (BYTES_OF_A_MEASUREMENT / self.input.len()).max(1);
         let mut buffers = vec![0; calls * self.input.len()];
-        let mut times = vec![Vec::new(); sides.len()];
-        let start = Instant::now();
-        for measurement in 0..MOST_MEASUREMENTS {
-            if measurement >= FEWEST_MEASUREMENTS && start.elapsed() > TIME_FOR_A_ROW {
-                break;
-            }
-            for (side, times) in sides.iter().zip(&mut times) {
-                times.push(self.time(*side, &mut buffers) / calls as f64);
-            }
+        for i in 0..self.times.len() {
+            let time = self.time(self.times[i].0, &mut buffers) / calls as f64;
+            self.times[i].1.push(time);
         }
-        sides.iter().copied().zip(times.into_iter().map(median)).collect()
+    }
+
+    /// The median of a side, in nanoseconds a call, if the side was timed.
+    pub fn median(&self, side: Side) -> Option<f64> {
+        self.times.iter().find(|(s, _)| *s == side).map(|(_, times)| median(times.clone()))
     }
 
     fn time(&self, side: Side, buffers: &mut [u8]) -> f64 {

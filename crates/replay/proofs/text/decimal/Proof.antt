@@ -32,7 +32,9 @@ loop-less : tie.Need-loop-less Inv-loop μ-loop
 loop-less c = omega arith
 
 loop-again : tie.Need-loop-again Inv-loop μ-loop
-loop-again c = let l = c .before .before .before .loop in (search needs, rw (c .with-digit .ensures) (sym (number-next (l .n) (c .before .before .before .before .before .args .field .now) (l .i) (search needs)) ∙ l .inv .1))
+loop-again c = let l = c .before .before .before .loop in
+    let s = c .before .before .before .before .before .args .field .now in
+    (search needs, rw (c .with-digit .ensures) (sym (number-next (l .n) s (l .i) (search needs)) ∙ l .inv .1))
 
 returns : tie.Need-returns Inv-loop μ-loop
 returns c = let l = c .before .loop in sym (number-end (l .n) (c .before .before .before .args .field .now) (l .i) (search needs)) ∙ l .inv .1

@@ -27,7 +27,14 @@ add-s-2 : tie.Need-add-s-2
 add-s-2 c = omega arith
 
 returns : tie.Need-returns
-returns c = λ e. adds-byte _ _ _ (c .before .if2 .taken) (c .before .before .before .before .digit .ensures (c .before .before .if1 .taken)) (c .before .before .before .digit2 .ensures (c .before .if2 .taken)) (search needs) (c .if3 .taken) e
+returns c =
+    λ e. adds-byte _ _ _
+    (c .before .if2 .taken)
+    (c .before .before .before .before .digit .ensures (c .before .before .if1 .taken))
+    (c .before .before .before .digit2 .ensures (c .before .if2 .taken))
+    (search needs)
+    (c .if3 .taken)
+    e
 
 bad-requires : tie.Need-bad-requires
 bad-requires c κs = search needs

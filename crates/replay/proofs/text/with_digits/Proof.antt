@@ -52,10 +52,18 @@ loop-less : tie.Need-loop-less Inv-loop μ-loop
 loop-less c = omega arith
 
 loop-again : tie.Need-loop-again Inv-loop μ-loop
-loop-again c = let l = c .before .before .before .before .loop in (search needs, λ e. let a = c .with-byte .ensures e in rw (two-more (c .before .before .before .before .before .before .before .args .field .now) (l .i) (omega arith)) (adds-more (l .inv .1 (a .good)) a))
+loop-again c = let l = c .before .before .before .before .loop in
+    let f = c .before .before .before .before .before .before .before .args .field .now in (
+      search needs,
+      λ e. let a = c .with-byte .ensures e in rw (two-more f (l .i) (omega arith)) (adds-more (l .inv .1 (a .good)) a),
+    )
 
 returns-2 : tie.Need-returns-2 Inv-loop μ-loop
-returns-2 c = λ e. let l = c .before .loop in let f = c .before .before .before .before .args .field .now in let h : length f ≤ 2 * l .i = omega arith in rw (take-all (2 * l .i) f h) at (l .inv .1 e)
+returns-2 c =
+    λ e. let l = c .before .loop in
+    let f = c .before .before .before .before .args .field .now in
+    let h : length f ≤ 2 * l .i = omega arith in
+    rw (take-all (2 * l .i) f h) at (l .inv .1 e)
 
 pub with-digits-spec : {M : Type 1} → statement M
 with-digits-spec =

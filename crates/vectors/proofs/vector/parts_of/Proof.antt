@@ -1,4 +1,4 @@
--- `vectors::vector::parts_of` meets its contract: after k fields k cuts are made, in order.
+-- `vectors::vector::parts_of` is safe and ends: the loop stays within the cuts.
 -- Assumes nothing.
 use Prim.Native.Nat.{_-_, _≤_}
 use borrow.Author.Needs.{needs}
