@@ -4,7 +4,7 @@
 use cases::Case;
 use std::{hint::black_box, time::Instant};
 
-/// Rounds over all tasks: some two minutes in all.
+/// Rounds over all tasks: a minute and a half in all.
 pub const ROUNDS: usize = 61;
 
 /// Short messages are timed many at a time, so that reading the clock doesn't count.
