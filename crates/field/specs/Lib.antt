@@ -1,2 +1,3 @@
 pub mod Field
 pub mod Substitution
+pub mod Tables

@@ -4,7 +4,7 @@ ghost use mathlib.Core.Path.{_≡_};
 ghost use Rattle.octets.specs.Octets.{table};
 ghost use Rattle.field.specs.Substitution.{invSub};
 
-const INV_SBOX: [u8; 256] = [
+pub const INV_SBOX: [u8; 256] = [
     0x52,
     0x09,
     0x6a,

@@ -1,6 +1,7 @@
 // FIPS 197: the field (section 4) as far as the code needs it, which is doubling, and both substitution tables (5.1.1, 5.3.2).
 ghost use mathlib.Core.Path.{_≡_};
 ghost use Rattle.field.specs.Field.{double};
+ghost use Rattle.field.specs.Tables.{UndoEachOther};
 
 pub mod inv_sbox;
 pub mod sbox;
@@ -10,4 +11,20 @@ pub fn double(x: u8) -> u8
     ensures { λ r. ⌜ r ≡ double x ⌝ }
 {
     if x < 0x80 { x << 1 } else { (x << 1) ^ 0x1b }
+}
+
+// Both tables, as they stand in the code.
+pub struct Tables {
+    pub forward: [u8; 256],
+    pub inverse: [u8; 256],
+}
+
+// Nothing calls it: its contract is the law that the code's tables undo each other.
+fn both_tables() -> Tables
+    ensures { λ r. ⌜ UndoEachOther (r .forward) (r .inverse) ⌝ }
+{
+    Tables {
+        forward: sbox::SBOX,
+        inverse: inv_sbox::INV_SBOX,
+    }
 }

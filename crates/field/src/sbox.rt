@@ -4,7 +4,7 @@ ghost use mathlib.Core.Path.{_≡_};
 ghost use Rattle.octets.specs.Octets.{table};
 ghost use Rattle.field.specs.Substitution.{sub};
 
-const SBOX: [u8; 256] = [
+pub const SBOX: [u8; 256] = [
     0x63,
     0x7c,
     0x77,
