@@ -4,7 +4,7 @@ use mathlib.Core.Path.{_≡_, refl, _∙_}
 use mathlib.Core.Bool.{Bool, true, false, not, false≢true}
 use mathlib.Core.Logic.{_⊎_, inl, inr}
 use Prim.Native.Nat.{ℕ, zero, suc, _≤_, _<_}
-use native.Mathlib.Nat.{suc-ne-zero, pos-of-ne-zero}
+use native.Mathlib.Nat.{suc-ne-zero}
 use native.Mathlib.Omega.{arith}
 use lib.Dec.{leb, ltb}
 use borrow.Author.Tests.{eq-eqb, ne-eqb, lt-ltb, le-ltb, le-leb, lt-leb, leb-true, eqb-true, ltb-false, not-false}
@@ -14,18 +14,18 @@ use Rattle.suites.specs.Suites.{isSuite, keyLength, nonceLength, refusal
 -- ---- what the code's tests show
 
 module _ (suite key nonce ad text : ℕ) where
-  pub no-suite-0 : suite ≡ 0 → 1 ≡ refusal suite key nonce ad text
+  pub no-suite-0 : suite < 1 → 1 ≡ refusal suite key nonce ad text
   unfolding refusal
-  no-suite-0 h = rw h
+  no-suite-0 h = let z : suite ≡ 0 = omega arith in rw z
 
-  module _ (h₀ : suite ≡ 0 → ⊥) where
+  module _ (h₀ : 1 ≤ suite) where
     pub no-suite : 4 < suite → 1 ≡ refusal suite key nonce ad text
     unfolding refusal
-    no-suite h = simp (lt-ltb _ _ (pos-of-ne-zero h₀), lt-leb _ _ h)
+    no-suite h = simp (lt-ltb _ _ h₀, lt-leb _ _ h)
 
     module _ (h₁ : suite ≤ 4) where
       suited : isSuite suite ≡ true
-      suited = simp (lt-ltb _ _ (pos-of-ne-zero h₀), le-leb _ _ h₁)
+      suited = simp (lt-ltb _ _ h₀, le-leb _ _ h₁)
 
       pub wrong-key : (key ≡ keyLength suite → ⊥) → 2 ≡ refusal suite key nonce ad text
       unfolding refusal

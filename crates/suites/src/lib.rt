@@ -43,7 +43,7 @@ pub fn nonce_length(suite: u8) -> usize
 pub fn refusal(suite: u8, key: usize, nonce: usize, ad: usize, text: usize) -> u8
     ensures { λ r. ⌜ r ≡ refusal suite key nonce ad text ⌝ }
 {
-    if suite == 0 {
+    if suite < 1 {
         return 1;
     }
     if 4 < suite {

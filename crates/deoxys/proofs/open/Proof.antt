@@ -1,9 +1,17 @@
 -- `deoxys::open` meets its contract: the four ways an opening can go: refused, tag of a wrong length, the tag is the computed one, it is not.
 -- Assumes nothing.
-use mathlib.Core.Path.{sym, _∙_}
+use mathlib.Core.Path.{_≡_, sym, ap, _∙_}
+use mathlib.Core.Bool.{Bool}
+use mathlib.Core.List.{List}
+use Prim.Native.Nat.{ℕ}
 use native.Mathlib.Omega.{arith}
 use lib.Seq.{take-all}
 use borrow.Author.Needs.{needs}
+use Rattle.octets.specs.Octets.{same}
+use Rattle.modes.specs.Rows.{Outcome}
+use Rattle.modes.specs.Answers.{answered}
+use Rattle.modes.specs.declared.Tagged.{Tagged}
+use Rattle.deoxys.specs.Entry.{opened}
 use Rattle.deoxys.proofs.Answers.{open-refused, open-tag-length, open-done, open-wrong-tag}
 use Rattle.deoxys.proofs.open.Statement.{statement}
 use Rattle.deoxys.proofs.open.Tie as tie
@@ -15,7 +23,7 @@ returns : tie.Need-returns
 returns c = rw (c .before .refusal .ensures) (open-refused _ _ _ _ _ _ (λ e. c .if1 .taken (c .before .refusal .ensures ∙ e)))
 
 returns-2 : tie.Need-returns-2
-returns-2 c = open-tag-length _ _ _ _ _ _ (sym (c .before .before .refusal .ensures) ∙ c .before .if1 .left) (c .if2 .taken)
+returns-2 c = open-tag-length _ _ _ _ _ _ (sym (c .before .before .refusal .ensures) ∙ c .before .if1 .left) (λ e. omega (arith, c .if2 .taken))
 
 read-block-requires : tie.Need-read-block-requires
 read-block-requires c κs = search needs
@@ -29,14 +37,19 @@ same-block-requires c κs = search needs
 same-length : tie.Need-same-length
 same-length c = search needs
 
+-- what the comparison of the block read and the tag computed says of the given tag and the definition's
+compared : (made : List ℕ → Outcome) {block tag : List ℕ} {tagged : Tagged} {right : Bool} → block ≡ tag → tagged ≡ answered (made block)
+    → same block (tagged .tag) ≡ right → same tag (made tag .tag) ≡ right
+compared made {block} {tag} read is e = sym (ap (λ (b : List ℕ). same b (made b .tag)) read) ∙ sym (ap (λ (t : Tagged). same block (t .tag)) is) ∙ e
+
 returns-3 : tie.Need-returns-3
 returns-3 c =
     let recovered = c .before .before .before .before .before in
     let tests = recovered .before .before .before in
     let whole = recovered .before .before .read-block .ensures ∙ take-all 16 (tests .before .before .before .before .before .before .before .before .args .tag .now) (omega arith) in
-    let right = rw (recovered .recover .ensures .0, whole) at (sym (c .before .same-block .ensures) ∙ c .if3 .taken) in
-    rw (recovered .recover .ensures .1, recovered .recover .ensures .0, whole)
-    (open-done _ _ _ _ _ _ (sym (tests .before .before .refusal .ensures) ∙ tests .before .if1 .left) (tests .if2 .left) right)
+    let right = compared (opened _ _ _ _ _) whole (recovered .recover .ensures .0) (sym (c .before .same-block .ensures) ∙ c .if3 .taken) in
+    simp (recovered .recover .ensures .1, recovered .recover .ensures .0, whole)
+    (open-done _ _ _ _ _ _ (sym (tests .before .before .refusal .ensures) ∙ tests .before .if1 .left) (omega arith) right)
 
 clear-requires : tie.Need-clear-requires
 clear-requires c κs = search needs
@@ -46,13 +59,13 @@ same-length-2 c = search needs
 
 returns-4 : tie.Need-returns-4
 returns-4 c =
-    let compared = c .before .before .before .before in
-    let recovered = compared .before .before .before .before .before in
+    let test = c .before .before .before .before in
+    let recovered = test .before .before .before .before .before in
     let tests = recovered .before .before .before in
     let whole = recovered .before .before .read-block .ensures ∙ take-all 16 (tests .before .before .before .before .before .before .before .before .args .tag .now) (omega arith) in
-    let wrong = rw (recovered .recover .ensures .0, whole) at (sym (compared .before .same-block .ensures) ∙ compared .if3 .left) in
-    rw (c .before .before .clear .ensures, recovered .recover .kept .1 .1 .1 .1 .0, recovered .recover .ensures .0, whole)
-    (open-wrong-tag _ _ _ _ _ _ (sym (tests .before .before .refusal .ensures) ∙ tests .before .if1 .left) (tests .if2 .left) wrong)
+    let wrong = compared (opened _ _ _ _ _) whole (recovered .recover .ensures .0) (sym (test .before .same-block .ensures) ∙ test .if3 .left) in
+    simp (c .before .before .clear .ensures, recovered .recover .kept .1 .1 .1 .1 .0, recovered .recover .ensures .0, whole)
+    (open-wrong-tag _ _ _ _ _ _ (sym (tests .before .before .refusal .ensures) ∙ tests .before .if1 .left) (omega arith) wrong)
 
 pub open-spec : {M : Type 1} → statement M
 open-spec =

@@ -66,7 +66,7 @@ loop-less c = search needs
 loop-again : tie.Need-loop-again Inv-loop μ-loop
 loop-again c = let l = c .before .before .before .before .before .before .loop in
     let e : l .i ≡ suc (l .i - 1) = omega arith in (
-      rw (c .equiv-inv-cipher-round .ensures, c .before .before .inv-mix-columns2 .ensures, c .before .before .before .read-block2 .ensures)
+      simp (c .equiv-inv-cipher-round .ensures, c .before .before .inv-mix-columns2 .ensures, c .before .before .before .read-block2 .ensures)
           (rw e at (l .inv .0)),
       omega arith,
     )

@@ -25,7 +25,7 @@ same-length c = search needs
 
 returns : tie.Need-returns
 returns c =
-    rw (
+    simp (
       c .before .before .before .write-block .ensures,
       c .before .before .before .before .before .before .crypt-block .ensures,
       c .before .before .before .before .before .before .before .nonce-tweak .ensures,

@@ -1,8 +1,9 @@
 -- `deoxys_ii::encrypt_decrypt_message` meets its contract: what is still to do of the buffer, from where the loop stands,
 -- gives what there was to do at first.
 -- Assumes nothing.
-use mathlib.Core.Path.{_≡_, refl, ap}
-use Prim.Native.Nat.{_+_, _-_, _/_, _≤_}
+use mathlib.Core.Path.{_≡_, refl, ap, _∙_}
+use mathlib.Core.List.{List}
+use Prim.Native.Nat.{ℕ, _+_, _-_, _/_, _≤_}
 use native.Mathlib.Omega.{arith}
 use lib.ListN.{length}
 use borrow.Author.Needs.{needs}
@@ -58,6 +59,9 @@ add-j c = search needs
 loop-less : tie.Need-loop-less Inv-loop μ-loop
 loop-less c = search needs
 
+xored : (s : List ℕ) {part b b′ : List ℕ} → part ≡ s ⊕ b → b ≡ b′ → part ≡ s ⊕ b′
+xored s p e = p ∙ ap (λ (x : List ℕ). s ⊕ x) e
+
 loop-again : tie.Need-loop-again Inv-loop μ-loop
 loop-again c =
     let called = c .before .before .before .before .before .before in
@@ -65,7 +69,7 @@ loop-again c =
     let made = rw (called .before .before .before .prefixed .ensures) at (called .encrypt-decrypt-block .ensures) in
     let block = ap (λ (r : Called). r .block) made in
     let size : length (called .encrypt-decrypt-block .result .block) ≡ 16 = search needs in
-    let written = rw block at (c .before .before .before .xor-into .ensures) in
+    let written = xored _ (c .before .before .before .xor-into .ensures) block in
     let t = stream-turn _ _ _ _ _ _ _ _ _ (l .inv .0) _ (omega arith) (omega arith) (rw block at size) written in
     rw made (t, search needs, omega arith, omega arith)
 

@@ -42,7 +42,7 @@ loop-again c = let a = c .before .before .before .args in
     let m = ⊕-length (a .part .now) (a .t2) (omega arith) in
     let ahead = upto-ahead (a .part .now ⊕ a .t2) (a .part .now) (l .i) (omega arith) (omega arith) in
     let here = ⊕-at (a .part .now) (a .t2) (l .i) (omega arith) (omega arith) in (
-      upto-turn (l .part) _ (a .part .now) (l .i) _ (l .inv .0) (omega arith) (omega arith) (rw (l .inv .0, ahead) (sym here)),
+      upto-turn (l .part) _ (a .part .now) (l .i) _ (l .inv .0) (omega arith) (omega arith) (simp (l .inv .0, ahead) (sym here)),
       omega arith,
       simp length-set (l .inv .2),
     )

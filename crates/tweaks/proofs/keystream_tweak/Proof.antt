@@ -26,7 +26,7 @@ returns : tie.Need-returns
 unfolding keystreamTweak numbered
 returns c = let a = c .before .before .args in
     let n : length (a .t1) ≡ 16 = search needs in
-    rw (c .xor-block .ensures, c .before .numbered .ensures, top-set (a .t1) (omega arith) (byte (search needs)))
+    simp (c .xor-block .ensures, c .before .numbered .ensures, top-set (a .t1) (omega arith) (byte (search needs)))
 
 pub keystream-tweak-spec : {M : Type 1} → statement M
 keystream-tweak-spec =
