@@ -153,7 +153,7 @@ pub fn open(k: Subkeys, nonce: &[u8], ad: &[u8], buffer: &mut [u8]) -> Tagged
     let tally = modes::compute_ad_tag(k, ad);
     let authenticated = tally.count;
     let count = crypt_message(k, nonce, buffer, true, authenticated);
-    let sum = checksum(buffer);
+    let recovered_sum = checksum(buffer);
     let auth = tally.sum;
-    tag(k, nonce, buffer.len(), sum, auth, count)
+    tag(k, nonce, buffer.len(), recovered_sum, auth, count)
 }

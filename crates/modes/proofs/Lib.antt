@@ -1,2 +1,3 @@
 pub mod Authenticating
 pub mod Counts
+pub mod Values

@@ -24,7 +24,7 @@ xor-block-requires c κs = search needs
 returns : tie.Need-returns
 unfolding round subBytes
 returns c = let bytes : Bytes (c .before .before .before .before .args .block) = record { at = λ i. byte (search needs) } in
-    rw (
+    simp (
       c .xor-block .ensures,
       c .before .mix-columns .ensures,
       c .before .before .shift-rows .ensures,

@@ -40,7 +40,7 @@ same-length c = search needs
 returns : tie.Need-returns
 unfolding sealII
 returns c = let a = c .before .before .before .before .before .before .before .before .before .before .before .before .before .args in
-    rw (
+    simp (
       c .before .before .encrypt-decrypt-message .ensures .1,
       c .before .before .encrypt-decrypt-message .ensures .0,
       c .before .before .before .before .before .before .tag .ensures,
