@@ -5,4 +5,5 @@ pub mod ModeI
 pub mod ModeII
 pub mod Modes
 pub mod Views
+pub mod InOrder
 pub mod Promises

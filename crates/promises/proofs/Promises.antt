@@ -21,12 +21,15 @@ use Rattle.promises.specs.Statements.{
   Keys-alike,
   Refused-alike,
   Round-trip,
+  Counts-the-list-of-seal,
+  Counts-the-list-of-open,
   rowsFor,
   Rows-counted-sealing,
   Rows-counted-opening,
   One-outcome-of-seal,
   One-outcome-of-open,
 }
+use Rattle.promises.proofs.InOrder.{refused-in-order-of-seal, refused-in-order-of-open}
 use Rattle.promises.proofs.Undoing.{Mode}
 use Rattle.promises.proofs.Modes.{mode, rows-sealed, rows-opened}
 use Rattle.promises.proofs.Views.{number, SealView, seal-view, OpenView, open-view, refusal-small}
@@ -209,22 +212,26 @@ round-trip suite key nonce ad message s o given pm a z b =
     record {
       accepts = numbers is;
       gives-back = ap (λ (x : Opening). x .buffer) is ∙ recovers given pm seals;
-      rows-sealing = ap (λ (x : Sealing). x .answer .rows) (a ∙ sym (seal-done suite key nonce ad message (work seals .allowed)));
-      rows-opening = ap (λ (x : Opening). x .answer .rows) is;
     }
 
+pub counts-the-list-of-seal : Counts-the-list-of-seal
+counts-the-list-of-seal suite key nonce ad message outcome a z =
+    refused-in-order-of-seal suite key nonce ad message outcome a .done z .rows-are
+
+pub counts-the-list-of-open : Counts-the-list-of-open
+counts-the-list-of-open suite key nonce ad cipher tag outcome o =
+    let r = refused-in-order-of-open suite key nonce ad cipher tag outcome o in (λ z. r .done z .rows-are, λ z. r .wrong z .rows-are)
+
 pub rows-counted-sealing : Rows-counted-sealing
-rows-counted-sealing suite key nonce ad message outcome a z = by (seal-view suite key nonce ad message)
-  where
-    by : SealView suite key nonce ad message → outcome .answer .rows ≡ rowsFor suite (length ad) (length message)
-    by (SealView.refused h e) = absurd (h (sym (ap (λ (x : Sealing). x .answer .number) (a ∙ e)) ∙ z))
-    by (SealView.done h e) = ap (λ (x : Sealing). x .answer .rows) (a ∙ e) ∙ rows-sealed suite key nonce ad message
+rows-counted-sealing suite key nonce ad message outcome a z =
+    counts-the-list-of-seal suite key nonce ad message outcome a z ∙ rows-sealed suite key nonce ad message
 
 pub rows-counted-opening : Rows-counted-opening
-rows-counted-opening suite key nonce ad cipher tag outcome given pc pt o = (
-  λ z. let a = accepted suite key nonce ad cipher tag outcome o z in ap (λ (x : Opening). x .answer .rows) (a .is) ∙ counted (a .allowed) (a .tag-length),
-  λ z. let w = wrong suite key nonce ad cipher tag outcome o z in ap (λ (x : Opening). x .answer .rows) (w .is) ∙ counted (w .allowed) (w .tag-length),
-)
+rows-counted-opening suite key nonce ad cipher tag outcome given pc pt o =
+    let counts = counts-the-list-of-open suite key nonce ad cipher tag outcome o in (
+      λ z. let a = accepted suite key nonce ad cipher tag outcome o z in counts .0 z ∙ counted (a .allowed) (a .tag-length),
+      λ z. let w = wrong suite key nonce ad cipher tag outcome o z in counts .1 z ∙ counted (w .allowed) (w .tag-length),
+    )
   where
     counted : number suite key nonce ad cipher ≡ 0 → length tag ≡ 16
         → length (opened suite key nonce ad cipher tag .rows) ≡ rowsFor suite (length ad) (length cipher)

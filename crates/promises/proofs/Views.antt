@@ -12,11 +12,11 @@ use Rattle.suites.specs.Suites.{isSuite, keyLength, nonceLength, limit, refusal
 use Rattle.deoxys.specs.Entry.{sealed, opened, sealing, opening}
 use Rattle.deoxys.proofs.Answers.{seal-refused, seal-done, open-refused, open-tag-length, open-done, open-wrong-tag}
 
-data Decided (n m : ℕ) : Type 0 where
+pub data Decided (n m : ℕ) : Type 0 where
   equal : n ≡ m → Decided n m
   other : (n ≡ m → ⊥) → Decided n m
 
-decided : (n m : ℕ) → Decided n m
+pub decided : (n m : ℕ) → Decided n m
 decided n m = by (eqb n m) refl
   where
     by : (b : Bool) → eqb n m ≡ b → Decided n m
