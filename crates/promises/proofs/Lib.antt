@@ -6,4 +6,5 @@ pub mod ModeII
 pub mod Modes
 pub mod Views
 pub mod InOrder
+pub mod FromRows
 pub mod Promises
