@@ -28,6 +28,7 @@ use Rattle.promises.specs.MadeOfRows.{
   readOpen,
   Call,
   Calls,
+  Whole,
   MadeOf,
   Made-of-rows-of-seal,
   Made-of-rows-of-open,
@@ -69,48 +70,52 @@ module _ {k : Subkeys} where
 
 module _ {k : Subkeys} (ad s : List ℕ) (a b : List Row) (ea : length a ≡ blocks ad) (eb : length b ≡ blocks s) (r : Row) where
   read-i : (message : List ℕ → List ℕ) → Calls k (a ++ (b ++ (r ∷ []))) → r .from ≡ I.checksum (message (I.textOf (length s / 16) b s))
-      → MadeOf k (a ++ (b ++ (r ∷ []))) (readI ad s message (a ++ (b ++ (r ∷ [])))) (I.textOf (length s / 16) b s) (absorbed zeroBlock a ⊕ r .to)
+      → MadeOf k (a ++ (b ++ (r ∷ []))) (readI ad s message) (I.textOf (length s / 16) b s) (absorbed zeroBlock a ⊕ r .to)
   read-i message calls e =
       rw (take-at a (b ++ (r ∷ [])) _ ea, drop-at a (b ++ (r ∷ [])) _ ea, take-at b (r ∷ []) _ eb, drop-at b (r ∷ []) _ eb)
       (record { calls = calls; makes-text = refl; makes-tag = refl; tag-row-given = e; none-unused = refl })
 
-  read-seal-ii : (c : List Row) → length c ≡ blocks s → Calls k (a ++ (b ++ (r ∷ c))) → r .from ≡ absorbed (absorbed zeroBlock a) b
-      → MadeOf k (a ++ (b ++ (r ∷ c))) (readSealII ad s (a ++ (b ++ (r ∷ c)))) (s ⊕ II.given c) (r .to)
-  read-seal-ii c ec calls e =
-      let l : length c ≤ blocks s = omega (arith, ec) in
-      rw (
-        take-at a (b ++ (r ∷ c)) _ ea,
-        drop-at a (b ++ (r ∷ c)) _ ea,
-        take-at b (r ∷ c) _ eb,
-        drop-at b (r ∷ c) _ eb,
-        take-all (blocks s) c l,
-        drop-of-length-le c l,
-      )
-      (record { calls = calls; makes-text = refl; makes-tag = refl; tag-row-given = e; none-unused = refl })
+  module _ (c : List Row) where
+    read-seal-ii : length c ≡ blocks s → Calls k (a ++ (b ++ (r ∷ c))) → r .from ≡ absorbed (absorbed zeroBlock a) b
+        → MadeOf k (a ++ (b ++ (r ∷ c))) (readSealII ad s) (s ⊕ II.given c) (r .to)
+    read-seal-ii ec calls e =
+        let l : length c ≤ blocks s = omega (arith, ec) in
+        rw (
+          take-at a (b ++ (r ∷ c)) _ ea,
+          drop-at a (b ++ (r ∷ c)) _ ea,
+          take-at b (r ∷ c) _ eb,
+          drop-at b (r ∷ c) _ eb,
+          take-all (blocks s) c l,
+          drop-of-length-le c l,
+        )
+        (record { calls = calls; makes-text = refl; makes-tag = refl; tag-row-given = e; none-unused = refl })
 
-  read-open-ii : (c : List Row) → length c ≡ blocks (s ⊕ II.given b) → Calls k (a ++ (b ++ (c ++ (r ∷ [])))) → r .from ≡ absorbed (absorbed zeroBlock a) c
-      → MadeOf k (a ++ (b ++ (c ++ (r ∷ [])))) (readOpenII ad s (a ++ (b ++ (c ++ (r ∷ []))))) (s ⊕ II.given b) (r .to)
-  read-open-ii c ec calls e =
-      rw (
-        take-at a (b ++ (c ++ (r ∷ []))) _ ea,
-        drop-at a (b ++ (c ++ (r ∷ []))) _ ea,
-        take-at b (c ++ (r ∷ [])) _ eb,
-        drop-at b (c ++ (r ∷ [])) _ eb,
-        take-at c (r ∷ []) _ ec,
-        drop-at c (r ∷ []) _ ec,
-      )
-      (record { calls = calls; makes-text = refl; makes-tag = refl; tag-row-given = e; none-unused = refl })
+    read-open-ii : length c ≡ blocks (s ⊕ II.given b) → Calls k (a ++ (b ++ (c ++ (r ∷ [])))) → r .from ≡ absorbed (absorbed zeroBlock a) c
+        → MadeOf k (a ++ (b ++ (c ++ (r ∷ [])))) (readOpenII ad s) (s ⊕ II.given b) (r .to)
+    read-open-ii ec calls e =
+        rw (
+          take-at a (b ++ (c ++ (r ∷ []))) _ ea,
+          drop-at a (b ++ (c ++ (r ∷ []))) _ ea,
+          take-at b (c ++ (r ∷ [])) _ eb,
+          drop-at b (c ++ (r ∷ [])) _ eb,
+          take-at c (r ∷ []) _ ec,
+          drop-at c (r ∷ []) _ ec,
+        )
+        (record { calls = calls; makes-text = refl; makes-tag = refl; tag-row-given = e; none-unused = refl })
 
 -- ---- the modes
 
+abbrev OutcomeMade : Subkeys → Outcome → (List Row → Made) → Type 0
+OutcomeMade k o read = MadeOf k (o .rows) read (o .text) (o .tag)
+
 module _ (k : Subkeys) (nonce ad s : List ℕ) where
   made-i : (call : List ℕ → List ℕ → Row) → ((t b : List ℕ) → Call k (call t b)) → (message : List ℕ → List ℕ)
-      → let o = I.outcome call k nonce ad s (message (I.crypted call k nonce s)) in MadeOf k (o .rows) (readI ad s message (o .rows)) (o .text) (o .tag)
+      → OutcomeMade k (I.outcome call k nonce ad s (message (I.crypted call k nonce s))) (readI ad s message)
   made-i call c message =
       read-i ad s (dataRows k ad) (I.cryptRows call k nonce s) (auth-count k 32 96 ad) (crypt-count call k nonce s) _ message
       (joined (over-text 32 96 ad _ 0) (joined (over-message call c nonce _ 0 s) (one (Call.enciphers refl)))) refl
 
-  made-seal-ii : let o = II.sealII k nonce ad s in MadeOf k (o .rows) (readSealII ad s (o .rows)) (o .text) (o .tag)
+  made-seal-ii : OutcomeMade k (II.sealII k nonce ad s) (readSealII ad s)
   unfolding II.sealII
   made-seal-ii =
       let t = II.tagRow k nonce ad s in
@@ -118,32 +123,30 @@ module _ (k : Subkeys) (nonce ad s : List ℕ) where
       (II.keystreamRows k (t .to) nonce s) (keystream-count k (t .to) nonce s)
       (joined (over-text 32 96 ad _ 0) (joined (over-text 0 64 s _ 0) (Calls.one-more (Call.enciphers refl) (keystream (t .to) nonce _ 0)))) refl
 
-  made-open-ii : (tag : List ℕ) → let o = II.openII k nonce ad s tag in MadeOf k (o .rows) (readOpenII ad s (o .rows)) (o .text) (o .tag)
+  made-open-ii : (tag : List ℕ) → OutcomeMade k (II.openII k nonce ad s tag) (readOpenII ad s)
   unfolding II.openII
   made-open-ii tag =
       let m = II.crypted k tag nonce s in
-      read-open-ii ad s (dataRows k ad) (II.keystreamRows k tag nonce s) (auth-count k 32 96 ad) (keystream-count k tag nonce s) (II.tagRow k nonce ad m)
-      (II.messageRows k m) (auth-count k 0 64 m)
+      read-open-ii ad s (dataRows k ad) (II.keystreamRows k tag nonce s) (auth-count k 32 96 ad) (keystream-count k tag nonce s)
+      (II.tagRow k nonce ad m) (II.messageRows k m) (auth-count k 0 64 m)
       (joined (over-text 32 96 ad _ 0) (joined (keystream tag nonce _ 0) (joined (over-text 0 64 m _ 0) (one (Call.enciphers refl))))) refl
 
 -- ---- the suites
 
-either : {k : Subkeys} (b : Bool) (f g : Outcome) (readF readG : List Row → Made) → MadeOf k (f .rows) (readF (f .rows)) (f .text) (f .tag)
-    → MadeOf k (g .rows) (readG (g .rows)) (g .text) (g .tag)
-    → let o = pick b f g in MadeOf k (o .rows) (pick b (readF (o .rows)) (readG (o .rows))) (o .text) (o .tag)
+either : {k : Subkeys} (b : Bool) (f g : Outcome) (readF readG : List Row → Made) → OutcomeMade k f readF → OutcomeMade k g readG
+    → OutcomeMade k (pick b f g) (λ rows. pick b (readF rows) (readG rows))
 either true f g readF readG p q = p
 either false f g readF readG p q = q
 
 module _ (suite : ℕ) (key nonce ad s : List ℕ) where
-  sealed-made : let o = sealed suite key nonce ad s in MadeOf (expanded key) (o .rows) (readSeal suite ad s (o .rows)) (o .text) (o .tag)
+  sealed-made : OutcomeMade (expanded key) (sealed suite key nonce ad s) (readSeal suite ad s)
   unfolding sealed readSeal I.sealI
   sealed-made =
       let k = expanded key in
       either (leb suite 2) _ _ (readI ad s (λ text. s)) (readSealII ad s)
       (made-i k nonce ad s (enciphered k) (λ t b. Call.enciphers refl) (λ text. s)) (made-seal-ii k nonce ad s)
 
-  opened-made : (tag : List ℕ)
-      → let o = opened suite key nonce ad s tag in MadeOf (expanded key) (o .rows) (readOpen suite ad s (o .rows)) (o .text) (o .tag)
+  opened-made : (tag : List ℕ) → OutcomeMade (expanded key) (opened suite key nonce ad s tag) (readOpen suite ad s)
   unfolding opened readOpen I.openI
   opened-made tag =
       let k = expanded key in
@@ -152,8 +155,8 @@ module _ (suite : ℕ) (key nonce ad s : List ℕ) where
 
 -- ---- the statements
 
-as-answered : {k : Subkeys} {rows : List Row} {made : Made} {text text′ tag tag′ : List ℕ} → MadeOf k rows made text tag → text′ ≡ text → tag′ ≡ tag
-    → MadeOf k rows made text′ tag′
+as-answered : {k : Subkeys} {rows : List Row} {made : Made} {text text′ tag tag′ : List ℕ} → Whole k rows made text tag
+    → text′ ≡ text → tag′ ≡ tag → Whole k rows made text′ tag′
 as-answered m e f = rw (e, f) m
 
 pub made-of-rows-of-seal : Made-of-rows-of-seal

@@ -1,5 +1,5 @@
--- What sealing and opening make, they make of their list of rows: document 01, "Rows" ("take every enciphered or deciphered block from that
--- list and use every row"), with its order of rows, and "Modes". The readers below have no key: they take the rows from the front of the list.
+-- What sealing and opening make, they make of their list of rows: document 01, "Rows" ("take every enciphered or deciphered block from
+-- that list and use every row") and "Modes". The readers below have no key: they take the rows from the front of the list, in its order.
 -- Assumes nothing.
 use mathlib.Core.Path.{_≡_}
 use mathlib.Core.List.{List, [], _∷_}
@@ -97,27 +97,28 @@ pub data Calls (k : Subkeys) : List Row → Type 0 where
   no-more : Calls k []
   one-more : {r : Row} {rows : List Row} → Call k r → Calls k rows → Calls k (r ∷ rows)
 
--- text and tag are what the rows make; the tag's row was given what the rows before it make; every row was used
-pub record MadeOf (k : Subkeys) (rows : List Row) (made : Made) (text tag : List ℕ) : Type 0 where
+-- text and tag are what the rows make; the tag's row was given what the others make; every row is used
+pub record Whole (k : Subkeys) (rows : List Row) (made : Made) (text tag : List ℕ) : Type 0 where
   pub calls : Calls k rows
   pub makes-text : made .text ≡ text
   pub makes-tag : made .tag ≡ tag
   pub tag-row-given : made .tag-row .from ≡ made .enciphers
   pub none-unused : made .unused ≡ []
 
+abbrev pub MadeOf : Subkeys → List Row → (List Row → Made) → List ℕ → List ℕ → Type 0
+MadeOf k rows read text tag = Whole k rows (read rows) text tag
+
 abbrev pub Made-of-rows-of-seal : Type 0
 Made-of-rows-of-seal = (suite : ℕ) (key nonce ad message : List ℕ) (outcome : Sealing)
     → SealAllows suite key nonce ad message outcome → outcome .answer .number ≡ 0
-    → MadeOf (expanded key) (sealed suite key nonce ad message .rows) (readSeal suite ad message (sealed suite key nonce ad message .rows))
-    (outcome .buffer) (outcome .answer .tag)
+    → MadeOf (expanded key) (sealed suite key nonce ad message .rows) (readSeal suite ad message) (outcome .buffer) (outcome .answer .tag)
 
--- an opening that answers 0, whose tag is the given one, or 7, which computes another and leaves zeros
+-- an opening that answers 0, with the given tag; and one that answers 7, with the text and the tag that it computed
 abbrev pub Made-of-rows-of-open : Type 0
 Made-of-rows-of-open = (suite : ℕ) (key nonce ad cipher tag : List ℕ) (outcome : Opening)
     → OpenAllows suite key nonce ad cipher tag outcome
     → ((outcome .answer .number ≡ 0)
-    → MadeOf (expanded key) (opened suite key nonce ad cipher tag .rows) (readOpen suite ad cipher (opened suite key nonce ad cipher tag .rows))
-    (outcome .buffer) tag)
+    → MadeOf (expanded key) (opened suite key nonce ad cipher tag .rows) (readOpen suite ad cipher) (outcome .buffer) tag)
     × ((outcome .answer .number ≡ 7)
-    → MadeOf (expanded key) (opened suite key nonce ad cipher tag .rows) (readOpen suite ad cipher (opened suite key nonce ad cipher tag .rows))
+    → MadeOf (expanded key) (opened suite key nonce ad cipher tag .rows) (readOpen suite ad cipher)
     (opened suite key nonce ad cipher tag .text) (opened suite key nonce ad cipher tag .tag))
