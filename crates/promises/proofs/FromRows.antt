@@ -21,6 +21,7 @@ use Rattle.deoxys_ii.proofs.Counts.{keystream-count}
 use Rattle.deoxys.specs.Entry.{Opening, sealed, opened}
 use Rattle.promises.specs.MadeOfRows.{
   Made,
+  next,
   readI,
   readSealII,
   readOpenII,
@@ -68,40 +69,36 @@ module _ {k : Subkeys} where
 
 -- ---- rows put together are read apart again
 
+module _ {k : Subkeys} {rows : List Row} {text tag : List ℕ} where
+  taken : (a b : List Row) (n : ℕ) (make : List Row → List Row → Made) → length a ≡ n → Whole k rows (make a b) text tag
+      → Whole k rows (next n (a ++ b) make) text tag
+  unfolding next
+  taken a b n make e w = rw (take-at a b n e, drop-at a b n e) w
+
+  taken-all : (a : List Row) (n : ℕ) (make : List Row → List Row → Made) → length a ≤ n → Whole k rows (make a []) text tag
+      → Whole k rows (next n a make) text tag
+  unfolding next
+  taken-all a n make l w = rw (take-all n a l, drop-of-length-le a l) w
+
 module _ {k : Subkeys} (ad s : List ℕ) (a b : List Row) (ea : length a ≡ blocks ad) (eb : length b ≡ blocks s) (r : Row) where
   read-i : (message : List ℕ → List ℕ) → Calls k (a ++ (b ++ (r ∷ []))) → r .from ≡ I.checksum (message (I.textOf (length s / 16) b s))
       → MadeOf k (a ++ (b ++ (r ∷ []))) (readI ad s message) (I.textOf (length s / 16) b s) (absorbed zeroBlock a ⊕ r .to)
   read-i message calls e =
-      rw (take-at a (b ++ (r ∷ [])) _ ea, drop-at a (b ++ (r ∷ [])) _ ea, take-at b (r ∷ []) _ eb, drop-at b (r ∷ []) _ eb)
-      (record { calls = calls; makes-text = refl; makes-tag = refl; tag-row-given = e; none-unused = refl })
+      taken a _ _ _ ea (taken b _ _ _ eb
+      (record { calls = calls; makes-text = refl; makes-tag = refl; tag-row-given = e; none-unused = refl }))
 
   module _ (c : List Row) where
     read-seal-ii : length c ≡ blocks s → Calls k (a ++ (b ++ (r ∷ c))) → r .from ≡ absorbed (absorbed zeroBlock a) b
         → MadeOf k (a ++ (b ++ (r ∷ c))) (readSealII ad s) (s ⊕ II.given c) (r .to)
     read-seal-ii ec calls e =
-        let l : length c ≤ blocks s = omega (arith, ec) in
-        rw (
-          take-at a (b ++ (r ∷ c)) _ ea,
-          drop-at a (b ++ (r ∷ c)) _ ea,
-          take-at b (r ∷ c) _ eb,
-          drop-at b (r ∷ c) _ eb,
-          take-all (blocks s) c l,
-          drop-of-length-le c l,
-        )
-        (record { calls = calls; makes-text = refl; makes-tag = refl; tag-row-given = e; none-unused = refl })
+        taken a _ _ _ ea (taken b _ _ _ eb (taken-all c _ _ (omega (arith, ec))
+        (record { calls = calls; makes-text = refl; makes-tag = refl; tag-row-given = e; none-unused = refl })))
 
     read-open-ii : length c ≡ blocks (s ⊕ II.given b) → Calls k (a ++ (b ++ (c ++ (r ∷ [])))) → r .from ≡ absorbed (absorbed zeroBlock a) c
         → MadeOf k (a ++ (b ++ (c ++ (r ∷ [])))) (readOpenII ad s) (s ⊕ II.given b) (r .to)
     read-open-ii ec calls e =
-        rw (
-          take-at a (b ++ (c ++ (r ∷ []))) _ ea,
-          drop-at a (b ++ (c ++ (r ∷ []))) _ ea,
-          take-at b (c ++ (r ∷ [])) _ eb,
-          drop-at b (c ++ (r ∷ [])) _ eb,
-          take-at c (r ∷ []) _ ec,
-          drop-at c (r ∷ []) _ ec,
-        )
-        (record { calls = calls; makes-text = refl; makes-tag = refl; tag-row-given = e; none-unused = refl })
+        taken a _ _ _ ea (taken b _ _ _ eb (taken c _ _ _ ec
+        (record { calls = calls; makes-text = refl; makes-tag = refl; tag-row-given = e; none-unused = refl })))
 
 -- ---- the modes
 

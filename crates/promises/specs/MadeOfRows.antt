@@ -27,7 +27,7 @@ pub record Made : Type 0 where
   pub unused : List Row
 
 -- the next n rows, and the rows after them, go into what is made
-abbrev pub next : ℕ → List Row → (List Row → List Row → Made) → Made
+unfoldable pub next : ℕ → List Row → (List Row → List Row → Made) → Made
 next n rows make = make (take n rows) (drop n rows)
 
 -- the next row; a list that has ended gives an empty one
