@@ -97,7 +97,7 @@ module _ {k : Subkeys} (ad s : List ℕ) (a b : List Row) (ea : length a ≡ blo
     read-open-ii : length c ≡ blocks (s ⊕ II.given b) → Calls k (a ++ (b ++ (c ++ (r ∷ [])))) → r .from ≡ absorbed (absorbed zeroBlock a) c
         → MadeOf k (a ++ (b ++ (c ++ (r ∷ [])))) (readOpenII ad s) (s ⊕ II.given b) (r .to)
     read-open-ii ec calls e =
-        taken a _ _ _ ea (taken b _ _ _ eb (taken c _ _ _ ec
+        taken a _ _ _ ea (taken b _ _ _ (omega (arith, eb)) (taken c _ _ _ ec
         (record { calls = calls; makes-text = refl; makes-tag = refl; tag-row-given = e; none-unused = refl })))
 
 -- ---- the modes
@@ -118,7 +118,7 @@ module _ (k : Subkeys) (nonce ad s : List ℕ) where
       let t = II.tagRow k nonce ad s in
       read-seal-ii ad s (dataRows k ad) (II.messageRows k s) (auth-count k 32 96 ad) (auth-count k 0 64 s) t
       (II.keystreamRows k (t .to) nonce s) (keystream-count k (t .to) nonce s)
-      (joined (over-text 32 96 ad _ 0) (joined (over-text 0 64 s _ 0) (Calls.one-more (Call.enciphers refl) (keystream (t .to) nonce _ 0)))) refl
+      (joined (over-text 32 96 ad _ 0) (joined (over-text 0 64 s _ 0) (Calls.one-more (Call.enciphers refl) (keystream _ nonce _ 0)))) refl
 
   made-open-ii : (tag : List ℕ) → OutcomeMade k (II.openII k nonce ad s tag) (readOpenII ad s)
   unfolding II.openII
