@@ -5,4 +5,6 @@ pub mod ModeI
 pub mod ModeII
 pub mod Modes
 pub mod Views
+pub mod InOrder
+pub mod FromRows
 pub mod Promises

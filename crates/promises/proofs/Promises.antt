@@ -3,10 +3,9 @@
 use mathlib.Core.Path.{_≡_, refl, sym, ap, _∙_, subst}
 use mathlib.Core.List.{List}
 use Prim.Native.Nat.{ℕ}
-use native.Mathlib.Omega.{arith}
-use lib.ListN.{length, replicate}
+use lib.ListN.{length}
 use Rattle.octets.specs.Octets.{Bytes, Block, same}
-use Rattle.octets.proofs.Sameness.{same-refl, same-eq}
+use Rattle.octets.proofs.Sameness.{same-refl}
 use Rattle.suites.specs.Suites.{refusal}
 use Rattle.deoxys.specs.Entry.{Sealing, Opening, sealed, opened, OpenAllows}
 use Rattle.suites.proofs.Refusals.{good}
@@ -21,15 +20,18 @@ use Rattle.promises.specs.Statements.{
   Keys-alike,
   Refused-alike,
   Round-trip,
+  Counts-the-list-of-seal,
+  Counts-the-list-of-open,
   rowsFor,
   Rows-counted-sealing,
   Rows-counted-opening,
   One-outcome-of-seal,
   One-outcome-of-open,
 }
+use Rattle.promises.proofs.InOrder.{refused-in-order-of-seal, refused-in-order-of-open}
 use Rattle.promises.proofs.Undoing.{Mode}
 use Rattle.promises.proofs.Modes.{mode, rows-sealed, rows-opened}
-use Rattle.promises.proofs.Views.{number, SealView, seal-view, OpenView, open-view, refusal-small}
+use Rattle.promises.proofs.Views.{number, SealView, seal-view, OpenView, open-view, numbers, Accepted, answered-0, answered-7}
 
 -- ---- what a message that seals says
 
@@ -73,53 +75,8 @@ module _ {suite : ℕ} {key nonce ad message cipher tag : List ℕ} (given : Giv
   computes : opened suite key nonce ad cipher tag .tag ≡ tag
   computes = rw (← work s .cipher-is, ← work s .tag-is) (the-mode .same-tag message pm)
 
--- ---- an opening by its outcome
-
-numbers : {a b : Opening} → a ≡ b → a .answer .number ≡ b .answer .number
-numbers e = ap (λ (o : Opening). o .answer .number) e
-
+-- a sealed message is accepted, and left
 module _ (suite : ℕ) (key nonce ad cipher tag : List ℕ) (outcome : Opening) (o : OpenAllows suite key nonce ad cipher tag outcome) where
-  -- it answers 0: nothing refused it, and the tag is the computed one
-  record Accepted : Type 0 where
-    allowed : number suite key nonce ad cipher ≡ 0
-    tag-length : length tag ≡ 16
-    right : tag ≡ opened suite key nonce ad cipher tag .tag
-    is : outcome ≡ record {
-      answer = record { number = 0; rows = length (opened suite key nonce ad cipher tag .rows) };
-      buffer = opened suite key nonce ad cipher tag .text;
-    }
-
-  accepted : outcome .answer .number ≡ 0 → Accepted
-  accepted z = by (open-view suite key nonce ad cipher tag)
-    where
-      by : OpenView suite key nonce ad cipher tag → Accepted
-      by (OpenView.refused h e) = absurd (h (sym (numbers (o ∙ e)) ∙ z))
-      by (OpenView.wrong-length h l e) = let f : _≡_ {A = ℕ} 6 0 = sym (numbers (o ∙ e)) ∙ z in absurd (omega arith)
-      by (OpenView.accepted h l s e) = record { allowed = h; tag-length = l; right = same-eq tag _ s; is = o ∙ e }
-      by (OpenView.wrong h l s e) = let f : _≡_ {A = ℕ} 7 0 = sym (numbers (o ∙ e)) ∙ z in absurd (omega arith)
-
-  -- it answers 7
-  record Wrong : Type 0 where
-    allowed : number suite key nonce ad cipher ≡ 0
-    tag-length : length tag ≡ 16
-    is : outcome ≡ record {
-      answer = record { number = 7; rows = length (opened suite key nonce ad cipher tag .rows) };
-      buffer = replicate (length cipher) 0;
-    }
-
-  wrong : outcome .answer .number ≡ 7 → Wrong
-  wrong z = by (open-view suite key nonce ad cipher tag)
-    where
-      by : OpenView suite key nonce ad cipher tag → Wrong
-      by (OpenView.refused h e) =
-          let f = sym (numbers (o ∙ e)) ∙ z in
-          let small = refusal-small suite (length key) (length nonce) (length ad) (length cipher) in
-          absurd (omega arith)
-      by (OpenView.wrong-length h l e) = let f : _≡_ {A = ℕ} 6 7 = sym (numbers (o ∙ e)) ∙ z in absurd (omega arith)
-      by (OpenView.accepted h l s e) = let f : _≡_ {A = ℕ} 0 7 = sym (numbers (o ∙ e)) ∙ z in absurd (omega arith)
-      by (OpenView.wrong h l s e) = record { allowed = h; tag-length = l; is = o ∙ e }
-
-  -- a sealed message is accepted, and left
   module _ {message : List ℕ} (given : Given key nonce ad) (pm : Bytes message) (s : Seals suite key nonce ad message cipher tag) where
     sealed-is : outcome ≡ record {
       answer = record { number = 0; rows = length (opened suite key nonce ad cipher tag .rows) };
@@ -133,7 +90,7 @@ module _ (suite : ℕ) (key nonce ad cipher tag : List ℕ) (outcome : Opening) 
 
 pub accepts-exactly : Accepts-exactly
 accepts-exactly suite key nonce ad cipher tag outcome given pc pt o =
-    (λ z. source (accepted suite key nonce ad cipher tag outcome o z), λ f. numbers (sealed-is suite key nonce ad cipher tag outcome o given (f .message-bytes) (f .seals)))
+    (λ z. source (answered-0 suite key nonce ad cipher tag outcome o z), λ f. numbers (sealed-is suite key nonce ad cipher tag outcome o given (f .message-bytes) (f .seals)))
   where
     source : Accepted suite key nonce ad cipher tag outcome o → Source suite key nonce ad cipher tag
     source a =
@@ -162,8 +119,8 @@ only-one suite key nonce ad message message′ cipher tag given pm pm′ s s′ 
 
 pub refused-alike : Refused-alike
 refused-alike suite key key′ nonce nonce′ ad ad′ cipher cipher′ tag tag′ outcome outcome′ given given′ pc pc′ pt pt′ la lc o o′ z z′ =
-    let w = wrong suite key nonce ad cipher tag outcome o z in
-    let w′ = wrong suite key′ nonce′ ad′ cipher′ tag′ outcome′ o′ z′ in
+    let w = answered-7 suite key nonce ad cipher tag outcome o z in
+    let w′ = answered-7 suite key′ nonce′ ad′ cipher′ tag′ outcome′ o′ z′ in
     let r = rows-opened given pc (record { size = w .tag-length; bytes = pt }) (good _ _ _ _ _ (w .allowed)) in
     let r′ = rows-opened given′ pc′ (record { size = w′ .tag-length; bytes = pt′ }) (good _ _ _ _ _ (w′ .allowed)) in
     w .is ∙ rw (r, la, lc) (sym (w′ .is ∙ rw r′))
@@ -209,22 +166,26 @@ round-trip suite key nonce ad message s o given pm a z b =
     record {
       accepts = numbers is;
       gives-back = ap (λ (x : Opening). x .buffer) is ∙ recovers given pm seals;
-      rows-sealing = ap (λ (x : Sealing). x .answer .rows) (a ∙ sym (seal-done suite key nonce ad message (work seals .allowed)));
-      rows-opening = ap (λ (x : Opening). x .answer .rows) is;
     }
 
+pub counts-the-list-of-seal : Counts-the-list-of-seal
+counts-the-list-of-seal suite key nonce ad message outcome a z =
+    refused-in-order-of-seal suite key nonce ad message outcome a .done z .rows-are
+
+pub counts-the-list-of-open : Counts-the-list-of-open
+counts-the-list-of-open suite key nonce ad cipher tag outcome o =
+    let r = refused-in-order-of-open suite key nonce ad cipher tag outcome o in (λ z. r .done z .rows-are, λ z. r .wrong z .rows-are)
+
 pub rows-counted-sealing : Rows-counted-sealing
-rows-counted-sealing suite key nonce ad message outcome a z = by (seal-view suite key nonce ad message)
-  where
-    by : SealView suite key nonce ad message → outcome .answer .rows ≡ rowsFor suite (length ad) (length message)
-    by (SealView.refused h e) = absurd (h (sym (ap (λ (x : Sealing). x .answer .number) (a ∙ e)) ∙ z))
-    by (SealView.done h e) = ap (λ (x : Sealing). x .answer .rows) (a ∙ e) ∙ rows-sealed suite key nonce ad message
+rows-counted-sealing suite key nonce ad message outcome a z =
+    counts-the-list-of-seal suite key nonce ad message outcome a z ∙ rows-sealed suite key nonce ad message
 
 pub rows-counted-opening : Rows-counted-opening
-rows-counted-opening suite key nonce ad cipher tag outcome given pc pt o = (
-  λ z. let a = accepted suite key nonce ad cipher tag outcome o z in ap (λ (x : Opening). x .answer .rows) (a .is) ∙ counted (a .allowed) (a .tag-length),
-  λ z. let w = wrong suite key nonce ad cipher tag outcome o z in ap (λ (x : Opening). x .answer .rows) (w .is) ∙ counted (w .allowed) (w .tag-length),
-)
+rows-counted-opening suite key nonce ad cipher tag outcome given pc pt o =
+    let counts = counts-the-list-of-open suite key nonce ad cipher tag outcome o in (
+      λ z. let a = answered-0 suite key nonce ad cipher tag outcome o z in counts .0 z ∙ counted (a .allowed) (a .tag-length),
+      λ z. let w = answered-7 suite key nonce ad cipher tag outcome o z in counts .1 z ∙ counted (w .allowed) (w .tag-length),
+    )
   where
     counted : number suite key nonce ad cipher ≡ 0 → length tag ≡ 16
         → length (opened suite key nonce ad cipher tag .rows) ≡ rowsFor suite (length ad) (length cipher)

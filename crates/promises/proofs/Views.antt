@@ -1,22 +1,24 @@
--- The four ways an opening can go and the two of a sealing, each with what it answers.
+-- The four ways an opening can go and the two of a sealing, each with what it answers; and what an answer of 0 or 7 says of an opening.
 -- Assumes nothing.
-use mathlib.Core.Path.{_≡_, refl, sym}
+use mathlib.Core.Path.{_≡_, refl, sym, ap, _∙_}
 use mathlib.Core.Bool.{Bool, true, false, not}
 use mathlib.Core.List.{List}
 use Prim.Native.Nat.{ℕ, _≤_}
+use native.Mathlib.Omega.{arith}
 use lib.Dec.{eqb, ltb, lit≤}
 use lib.ListN.{length, replicate}
 use borrow.Author.Tests.{eqb-true, eqb-false}
 use Rattle.octets.specs.Octets.{pick, same, zeroBlock}
+use Rattle.octets.proofs.Sameness.{same-eq}
 use Rattle.suites.specs.Suites.{isSuite, keyLength, nonceLength, limit, refusal}
-use Rattle.deoxys.specs.Entry.{sealed, opened, sealing, opening}
+use Rattle.deoxys.specs.Entry.{Opening, sealed, opened, sealing, opening, OpenAllows}
 use Rattle.deoxys.proofs.Answers.{seal-refused, seal-done, open-refused, open-tag-length, open-done, open-wrong-tag}
 
-data Decided (n m : ℕ) : Type 0 where
+pub data Decided (n m : ℕ) : Type 0 where
   equal : n ≡ m → Decided n m
   other : (n ≡ m → ⊥) → Decided n m
 
-decided : (n m : ℕ) → Decided n m
+pub decided : (n m : ℕ) → Decided n m
 decided n m = by (eqb n m) refl
   where
     by : (b : Bool) → eqb n m ≡ b → Decided n m
@@ -94,3 +96,49 @@ refusal-small suite key nonce ad text =
     picked : (b : Bool) (x y : ℕ) → x ≤ 5 → y ≤ 5 → pick b x y ≤ 5
     picked true x y p q = p
     picked false x y p q = q
+
+-- ---- an opening by its outcome
+
+pub numbers : {a b : Opening} → a ≡ b → a .answer .number ≡ b .answer .number
+numbers e = ap (λ (o : Opening). o .answer .number) e
+
+module _ (suite : ℕ) (key nonce ad cipher tag : List ℕ) (outcome : Opening) (o : OpenAllows suite key nonce ad cipher tag outcome) where
+  -- it answers 0: nothing refused it, and the tag is the computed one
+  pub record Accepted : Type 0 where
+    pub allowed : number suite key nonce ad cipher ≡ 0
+    pub tag-length : length tag ≡ 16
+    pub right : tag ≡ opened suite key nonce ad cipher tag .tag
+    pub is : outcome ≡ record {
+      answer = record { number = 0; rows = length (opened suite key nonce ad cipher tag .rows) };
+      buffer = opened suite key nonce ad cipher tag .text;
+    }
+
+  pub answered-0 : outcome .answer .number ≡ 0 → Accepted
+  answered-0 z = by (open-view suite key nonce ad cipher tag)
+    where
+      by : OpenView suite key nonce ad cipher tag → Accepted
+      by (OpenView.refused h e) = absurd (h (sym (numbers (o ∙ e)) ∙ z))
+      by (OpenView.wrong-length h l e) = let f : _≡_ {A = ℕ} 6 0 = sym (numbers (o ∙ e)) ∙ z in absurd (omega arith)
+      by (OpenView.accepted h l s e) = record { allowed = h; tag-length = l; right = same-eq tag _ s; is = o ∙ e }
+      by (OpenView.wrong h l s e) = let f : _≡_ {A = ℕ} 7 0 = sym (numbers (o ∙ e)) ∙ z in absurd (omega arith)
+
+  -- it answers 7
+  pub record Wrong : Type 0 where
+    pub allowed : number suite key nonce ad cipher ≡ 0
+    pub tag-length : length tag ≡ 16
+    pub is : outcome ≡ record {
+      answer = record { number = 7; rows = length (opened suite key nonce ad cipher tag .rows) };
+      buffer = replicate (length cipher) 0;
+    }
+
+  pub answered-7 : outcome .answer .number ≡ 7 → Wrong
+  answered-7 z = by (open-view suite key nonce ad cipher tag)
+    where
+      by : OpenView suite key nonce ad cipher tag → Wrong
+      by (OpenView.refused h e) =
+          let f = sym (numbers (o ∙ e)) ∙ z in
+          let small = refusal-small suite (length key) (length nonce) (length ad) (length cipher) in
+          absurd (omega arith)
+      by (OpenView.wrong-length h l e) = let f : _≡_ {A = ℕ} 6 7 = sym (numbers (o ∙ e)) ∙ z in absurd (omega arith)
+      by (OpenView.accepted h l s e) = let f : _≡_ {A = ℕ} 0 7 = sym (numbers (o ∙ e)) ∙ z in absurd (omega arith)
+      by (OpenView.wrong h l s e) = record { allowed = h; tag-length = l; is = o ∙ e }

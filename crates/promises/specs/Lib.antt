@@ -1,1 +1,3 @@
 pub mod Statements
+pub mod Refusals
+pub mod MadeOfRows

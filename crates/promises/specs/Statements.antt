@@ -64,18 +64,28 @@ Refused-alike = (suite : ℕ) (key key′ nonce nonce′ ad ad′ cipher cipher�
     → outcome .answer .number ≡ 7 → outcome′ .answer .number ≡ 7
     → outcome ≡ outcome′
 
--- What sealing answers with 0, opening accepts and gives back; the counts are the lengths of the two lists of rows.
-pub record Returned (suite : ℕ) (key nonce ad message : List ℕ) (s : Sealing) (o : Opening) : Type 0 where
-  pub accepts : o .answer .number ≡ 0
-  pub gives-back : o .buffer ≡ message
-  pub rows-sealing : s .answer .rows ≡ length (sealed suite key nonce ad message .rows)
-  pub rows-opening : o .answer .rows ≡ length (opened suite key nonce ad (s .buffer) (s .answer .tag) .rows)
+-- What sealing answers with 0, opening accepts and gives back.
+pub record Returned (message : List ℕ) (outcome : Opening) : Type 0 where
+  pub accepts : outcome .answer .number ≡ 0
+  pub gives-back : outcome .buffer ≡ message
 
 abbrev pub Round-trip : Type 0
 Round-trip = (suite : ℕ) (key nonce ad message : List ℕ) (s : Sealing) (o : Opening) → Given key nonce ad → Bytes message
     → SealAllows suite key nonce ad message s → s .answer .number ≡ 0
     → OpenAllows suite key nonce ad (s .buffer) (s .answer .tag) o
-    → Returned suite key nonce ad message s o
+    → Returned message o
+
+-- The count in the answer is the length of the definition's list of rows: of a sealing that answers 0, of an opening that answers 0 or 7.
+abbrev pub Counts-the-list-of-seal : Type 0
+Counts-the-list-of-seal = (suite : ℕ) (key nonce ad message : List ℕ) (outcome : Sealing)
+    → SealAllows suite key nonce ad message outcome → outcome .answer .number ≡ 0
+    → outcome .answer .rows ≡ length (sealed suite key nonce ad message .rows)
+
+abbrev pub Counts-the-list-of-open : Type 0
+Counts-the-list-of-open = (suite : ℕ) (key nonce ad cipher tag : List ℕ) (outcome : Opening)
+    → OpenAllows suite key nonce ad cipher tag outcome
+    → ((outcome .answer .number ≡ 0) → outcome .answer .rows ≡ length (opened suite key nonce ad cipher tag .rows))
+    × ((outcome .answer .number ≡ 7) → outcome .answer .rows ≡ length (opened suite key nonce ad cipher tag .rows))
 
 -- The rows from the lengths alone: a + m + 1 for Deoxys-I, a + 2m + 1 for Deoxys-II, with a and m the numbers of blocks.
 abbrev pub rowsFor : ℕ → ℕ → ℕ → ℕ
