@@ -230,7 +230,7 @@ module _ (opening : Bool) (suite ad message : ℕ) where
       pub row-later : getD later (i - a) noRow ≡ getD table i noRow
       row-later = sym (rw (whole) (after (textLabels 0 ad) later i a (text-count 0 ad ∙ sym is-a) l))
 
-      pub later-reaches : i - a < length later
-      later-reaches =
-          let e : length table ≡ blocksOf ad + length later = rw (whole) (simp (length-append, text-count)) in
-          omega (arith, table-count)
+      pub later-fits : (message ≤ 1048576) × (i - a < length later)
+      later-fits =
+          let e : length table ≡ blocksOf ad + length later = rw whole (simp (length-append, text-count)) in
+          (fits suite ad message i h .text-fits, omega (arith, table-count))
