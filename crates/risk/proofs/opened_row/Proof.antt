@@ -1,6 +1,7 @@
 -- `risk::opened_row` meets its contract: the place says which part of the table the row is in.
 -- Assumes nothing.
 use mathlib.Core.Path.{_∙_}
+use native.Mathlib.Omega.{arith}
 use borrow.Author.Needs.{needs}
 use Rattle.risk.proofs.Tables.{opened-keystream, opened-message, opened-tag, opened-small}
 use Rattle.risk.proofs.opened_row.Statement.{statement}
@@ -19,7 +20,9 @@ blocks-requires : tie.Need-blocks-requires
 blocks-requires c κs = search needs
 
 block-label-requires-2 : tie.Need-block-label-requires-2
-block-label-requires-2 c κs = search needs
+block-label-requires-2 c κs =
+    let l = opened-small _ _ _ (c .before .before .before .before .pre .1) (c .before .before .before .before .pre .0) in
+    omega arith
 
 returns-2 : tie.Need-returns-2
 returns-2 c =
