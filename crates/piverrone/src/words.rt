@@ -101,7 +101,7 @@ fn extent(partial: bool) -> bool {
     }
 }
 
-// A row of the risk table, numbered from one.
+// A row of a risk table, numbered from one.
 pub fn row(number: usize, label: risk::Label) -> bool {
     told(
         io::print_decimal(STDOUT_FILENO, number as u64)
