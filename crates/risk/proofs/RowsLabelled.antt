@@ -10,6 +10,7 @@ use lib.ListN.{length, length-map}
 use borrow.Author.Tests.{eq-eqb, eqb-true}
 use Rattle.octets.specs.Octets.{Bytes, Block, pick, same}
 use Rattle.octets.proofs.Tables.{lt-or-ge}
+use Rattle.tweakey.specs.Tweakey.{expanded}
 use Rattle.modes.specs.Rows.{Row, Outcome}
 use Rattle.suites.specs.Suites.{keyLength, nonceLength, refusal}
 use Rattle.suites.proofs.Refusals.{good}
@@ -20,21 +21,28 @@ use Rattle.promises.proofs.Modes.{mode}
 use Rattle.risk.specs.declared.Label.{Label}
 use Rattle.risk.specs.Labels.{blockLabels, tagLabel, labels, openingLabels, refused, riskTable, openingTable}
 use Rattle.risk.specs.Tweaks.{tweakOf}
-use Rattle.risk.proofs.Labelled.{labelled-i, labelled-ii, opening-labelled-i, opening-labelled-ii}
+use Rattle.risk.specs.Calls.{deciphers, InStep}
+use Rattle.risk.proofs.Labelled.{tweaks-in-step, labelled-i, labelled-ii, opening-labelled-i, opening-labelled-ii}
 
 as-many : (rows : List Row) (names : List Label) (f : Label → List ℕ) → map (λ (r : Row). r .tweak) rows ≡ map f names → length rows ≡ length names
 as-many rows names f e = sym (length-map rows (λ r. r .tweak)) ∙ ap length e ∙ length-map names f
 
 module _ (suite : ℕ) (key nonce ad message : List ℕ) where
-  -- row by row, in order, a sealing's tweaks are those that document 01 gives the labels
-  pub rows-labelled :
-      map (λ (r : Row). r .tweak) (sealed suite key nonce ad message .rows)
-      ≡ map (tweakOf suite nonce (sealed suite key nonce ad message .tag)) (labels suite (length ad) (length message))
-  rows-labelled =
+  -- row by row, in order, a sealing's rows are the calls that document 01 gives the labels
+  pub rows-called :
+      InStep (expanded key) (tweakOf suite nonce (sealed suite key nonce ad message .tag)) (deciphers false suite)
+      (sealed suite key nonce ad message .rows) (labels suite (length ad) (length message))
+  rows-called =
       ⊎-elim
       (λ h. rw (← sealed-ii suite key nonce ad message h) (labelled-ii suite key nonce ad message _ h refl))
       (λ h. rw (← sealed-i suite key nonce ad message h) (labelled-i suite key nonce ad message _ h))
       (lt-or-ge 2 suite)
+
+  -- so their tweaks are the labels'
+  pub rows-labelled :
+      map (λ (r : Row). r .tweak) (sealed suite key nonce ad message .rows)
+      ≡ map (tweakOf suite nonce (sealed suite key nonce ad message .tag)) (labels suite (length ad) (length message))
+  rows-labelled = tweaks-in-step _ _ _ _ _ rows-called
 
   -- so there are as many of the ones as of the others
   pub rows-counted : length (sealed suite key nonce ad message .rows) ≡ length (labels suite (length ad) (length message))
@@ -57,21 +65,26 @@ either-way false p q n e f = f
 
 -- an opening, of bytes, with the given tag, from which Deoxys-II takes the keystream
 module _ (suite : ℕ) (key nonce ad cipher tag : List ℕ) (given : Given key nonce ad) (pc : Bytes cipher) (pt : Block tag) where
-  -- where nothing refuses it, its tweaks too are those of its labels, row by row, in order
+  -- where nothing refuses it, its rows too are the calls of its labels, row by row, in order
   module _ (allowed : refusal suite (length key) (length nonce) (length ad) (length cipher) ≡ 0) where
     as-long : length (opened suite key nonce ad cipher tag .text) ≡ length cipher
     as-long = mode given (good _ _ _ _ _ allowed) .opened-like cipher tag pc pt .size
 
-    pub opening-rows-labelled :
-        map (λ (r : Row). r .tweak) (opened suite key nonce ad cipher tag .rows)
-        ≡ map (tweakOf suite nonce tag) (openingLabels suite (length ad) (length cipher))
-    opening-rows-labelled =
+    pub opening-rows-called :
+        InStep (expanded key) (tweakOf suite nonce tag) (deciphers true suite)
+        (opened suite key nonce ad cipher tag .rows) (openingLabels suite (length ad) (length cipher))
+    opening-rows-called =
         ⊎-elim
         (λ h. let e = opened-ii suite key nonce ad cipher tag h in
         rw (← e) (opening-labelled-ii suite key nonce ad cipher tag h (ap (λ (o : Outcome). length (o .text)) e ∙ as-long)))
         (λ h. let e = opened-i suite key nonce ad cipher tag h in
         rw (← e) (opening-labelled-i suite key nonce ad cipher tag h (ap (λ (o : Outcome). length (o .text)) e ∙ as-long)))
         (lt-or-ge 2 suite)
+
+    pub opening-rows-labelled :
+        map (λ (r : Row). r .tweak) (opened suite key nonce ad cipher tag .rows)
+        ≡ map (tweakOf suite nonce tag) (openingLabels suite (length ad) (length cipher))
+    opening-rows-labelled = tweaks-in-step _ _ _ _ _ opening-rows-called
 
     pub opening-rows-counted : length (opened suite key nonce ad cipher tag .rows) ≡ length (openingLabels suite (length ad) (length cipher))
     opening-rows-counted =
