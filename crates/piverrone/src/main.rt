@@ -1,4 +1,4 @@
-// Seals and opens files, and prints the risk table of a sealing.
+// Seals and opens files, and prints the risk tables of a sealing and an opening.
 //
 // No program has an exit status here: `tools/piverrone` makes one of what is written. What was done is told on
 // standard output, and what was not on standard error. The file OUT is written only where the answer is 0.
@@ -91,15 +91,25 @@ fn open(suite: u8, key: &[u8], nonce: &[u8], ad: &[u8], text: &mut [u8]) {
     }
 }
 
-// A line for each block cipher call of a sealing, and their number.
-fn table(suite: u8, ad: usize, message: usize) {
+fn label(opening: bool, suite: u8, ad: usize, message: usize, i: usize) -> risk::Label {
+    if opening {
+        return risk::opening_row(suite, ad, message, i);
+    }
+    risk::row(suite, ad, message, i)
+}
+
+// A heading, a line for each block cipher call, and their number, which is the same both ways.
+fn table(opening: bool, suite: u8, ad: usize, message: usize) -> bool {
+    if !words::heading(opening) {
+        return false;
+    }
     let n = risk::rows(suite, ad, message);
     for i in 0..n {
-        if !words::row(i + 1, risk::row(suite, ad, message, i)) {
-            return;
+        if !words::row(i + 1, label(opening, suite, ad, message, i)) {
+            return false;
         }
     }
-    words::done(b"", n);
+    words::done(b"", n)
 }
 
 fn rows() {
@@ -115,5 +125,7 @@ fn rows() {
         words::refused(number);
         return;
     }
-    table(suite, ad.value, message.value);
+    if table(false, suite, ad.value, message.value) {
+        table(true, suite, ad.value, message.value);
+    }
 }

@@ -62,14 +62,24 @@ pub fn not_regular(path: &[u8]) {
     warn(b": it is not a regular file\n");
 }
 
-// What was done, and its number of rows.
-pub fn done(what: &[u8], rows: usize) {
-    let told = say(what)
-        && say(b"rows: ")
-        && io::print_decimal(STDOUT_FILENO, rows as u64)
-        && say(b"\n");
-    if !told {
+// Whether all was written. Where it was not, that is told.
+fn told(all: bool) -> bool {
+    if !all {
         os::fail(b"standard output");
+    }
+    all
+}
+
+// What was done, and its number of rows.
+pub fn done(what: &[u8], rows: usize) -> bool {
+    told(say(what) && say(b"rows: ") && io::print_decimal(STDOUT_FILENO, rows as u64) && say(b"\n"))
+}
+
+pub fn heading(opening: bool) -> bool {
+    if opening {
+        told(say(b"opening\n"))
+    } else {
+        told(say(b"sealing\n"))
     }
 }
 
@@ -91,14 +101,12 @@ fn extent(partial: bool) -> bool {
     }
 }
 
-// A row of the risk table, numbered from one.
+// A row of a risk table, numbered from one.
 pub fn row(number: usize, label: risk::Label) -> bool {
-    let told = io::print_decimal(STDOUT_FILENO, number as u64)
-        && kind(label.kind)
-        && io::print_decimal(STDOUT_FILENO, label.number as u64)
-        && extent(label.partial);
-    if !told {
-        os::fail(b"standard output");
-    }
-    told
+    told(
+        io::print_decimal(STDOUT_FILENO, number as u64)
+            && kind(label.kind)
+            && io::print_decimal(STDOUT_FILENO, label.number as u64)
+            && extent(label.partial),
+    )
 }

@@ -1,2 +1,3 @@
 pub mod Labels
 pub mod Tweaks
+pub mod Calls
