@@ -38,10 +38,12 @@ fn fill(data: &mut [u8; ROOM]) {
     pattern::fill(data, pattern::DATA);
 }
 
+// The spoilt list shows that a difference is told; it is no part of the total.
 fn main() {
     let mut data = [0u8; ROOM];
     let mut buffer = [0u8; ROOM];
     fill(&mut data);
+    list(b"spoilt.txt", &data, &mut buffer);
     let refusals = list(b"refusals.txt", &data, &mut buffer);
     let limits = list(b"limits.txt", &data, &mut buffer);
     report::total(refusals.and(limits));
