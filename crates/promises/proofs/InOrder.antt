@@ -22,6 +22,7 @@ use Rattle.promises.specs.Refusals.{
   Refused-in-order-of-seal,
   OpensInOrder,
   Refused-in-order-of-open,
+  Refused-in-order,
 }
 use Rattle.promises.proofs.Views.{Decided, decided, number, SealView, seal-view, OpenView, open-view, refusal-small}
 
@@ -232,3 +233,6 @@ refused-in-order-of-open suite key nonce ad cipher tag outcome o = by (open-view
           wrong = λ z. absurd (omega (arith, z));
           done = λ z. record { rows-are = refl; buffer-is = refl };
         })
+
+pub refused-in-order : Refused-in-order
+refused-in-order = (refused-in-order-of-seal, refused-in-order-of-open)

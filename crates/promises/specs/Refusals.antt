@@ -72,3 +72,7 @@ pub record OpensInOrder (suite : ℕ) (key nonce ad cipher tag : List ℕ) (outc
 abbrev pub Refused-in-order-of-open : Type 0
 Refused-in-order-of-open = (suite : ℕ) (key nonce ad cipher tag : List ℕ) (outcome : Opening)
     → OpenAllows suite key nonce ad cipher tag outcome → OpensInOrder suite key nonce ad cipher tag outcome
+
+-- Demand 1, both ways
+abbrev pub Refused-in-order : Type 0
+Refused-in-order = Refused-in-order-of-seal × Refused-in-order-of-open

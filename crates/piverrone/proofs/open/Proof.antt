@@ -1,5 +1,5 @@
 -- `piverrone::open` is safe and ends: the ciphertext is what stands before the tag.
--- Assumes nothing.
+-- Rests on libc's contracts, the toolchain's axioms about the system's calls (files and standard output), and assumes nothing else.
 use mathlib.Core.Path.{sym}
 use lib.Seq.{length-take-le}
 use borrow.Author.Needs.{needs}

@@ -1,5 +1,5 @@
 -- `piverrone::table` is safe and ends: a row's number is below the table's length.
--- Assumes nothing.
+-- Rests on libc's contracts, the toolchain's axioms about the system's calls (standard output), and assumes nothing else.
 use Prim.Native.Nat.{_-_}
 use borrow.Author.Needs.{needs}
 use Rattle.piverrone.proofs.table.Statement.{statement}

@@ -1,5 +1,5 @@
 -- `piverrone::files::read_all` meets its contract: what was read so far is within the buffer.
--- Assumes nothing.
+-- Rests on libc's contracts, the toolchain's axioms about the system's calls (`read`), and assumes nothing else.
 use mathlib.Core.Path.{_≡_}
 use Prim.Native.Nat.{_-_, _≤_}
 use lib.ListN.{length}

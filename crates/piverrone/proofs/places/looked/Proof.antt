@@ -1,6 +1,6 @@
 -- `piverrone::places::looked` is safe and ends: a walk of its MIR, by hand, since it lends a struct. All that it knows of `lstat` is its contract.
 -- The struct is lent for a lifetime that is made for the call, and comes back at some value, which is returned.
--- Assumes nothing.
+-- Rests on libc's contracts, the toolchain's axioms about the system's calls (`lstat`), and assumes nothing else.
 use mathlib.Core.Path.{refl}
 use Prim.Native.Nat.{ℕ}
 use mathlib.Core.List.{[], _∷_, List}
