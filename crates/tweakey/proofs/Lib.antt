@@ -1,2 +1,3 @@
 pub mod Tweakeys
 pub mod Flat
+pub mod Values
