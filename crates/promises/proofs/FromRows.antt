@@ -6,7 +6,7 @@ use mathlib.Core.List.{List, [], _∷_, _++_}
 use Prim.Native.Nat.{ℕ, zero, suc, _+_, _*_, _/_, _≤_}
 use native.Mathlib.Omega.{arith}
 use lib.Dec.{leb}
-use lib.ListN.{length, drop, drop-of-length-le}
+use lib.ListN.{length, drop, length-append, drop-of-length-le}
 use lib.Seq.{take-at, drop-at, take-all}
 use Rattle.octets.specs.Octets.{pick, _⊕_, zeroBlock, padded}
 use Rattle.tweakey.specs.Tweakey.{expanded}
@@ -84,21 +84,24 @@ module _ {k : Subkeys} (ad s : List ℕ) (a b : List Row) (ea : length a ≡ blo
   read-i : (message : List ℕ → List ℕ) → Calls k (a ++ (b ++ (r ∷ []))) → r .from ≡ I.checksum (message (I.textOf (length s / 16) b s))
       → MadeOf k (a ++ (b ++ (r ∷ []))) (readI ad s message) (I.textOf (length s / 16) b s) (absorbed zeroBlock a ⊕ r .to)
   read-i message calls e =
+      let l : length (a ++ (b ++ (r ∷ []))) ≡ length a + (length b + 1) = simp length-append in
       taken a _ _ _ ea (taken b _ _ _ eb
-      (record { calls = calls; makes-text = refl; makes-tag = refl; tag-row-given = e; none-unused = refl }))
+      (record { calls = calls; makes-text = refl; makes-tag = refl; tag-row-given = e; none-missing = omega arith; none-unused = refl }))
 
   module _ (c : List Row) where
     read-seal-ii : length c ≡ blocks s → Calls k (a ++ (b ++ (r ∷ c))) → r .from ≡ absorbed (absorbed zeroBlock a) b
         → MadeOf k (a ++ (b ++ (r ∷ c))) (readSealII ad s) (s ⊕ II.given c) (r .to)
     read-seal-ii ec calls e =
+        let l : length (a ++ (b ++ (r ∷ c))) ≡ length a + (length b + suc (length c)) = simp length-append in
         taken a _ _ _ ea (taken b _ _ _ eb (taken-all c _ _ (omega (arith, ec))
-        (record { calls = calls; makes-text = refl; makes-tag = refl; tag-row-given = e; none-unused = refl })))
+        (record { calls = calls; makes-text = refl; makes-tag = refl; tag-row-given = e; none-missing = omega arith; none-unused = refl })))
 
     read-open-ii : length c ≡ blocks (s ⊕ II.given b) → Calls k (a ++ (b ++ (c ++ (r ∷ [])))) → r .from ≡ absorbed (absorbed zeroBlock a) c
         → MadeOf k (a ++ (b ++ (c ++ (r ∷ [])))) (readOpenII ad s) (s ⊕ II.given b) (r .to)
     read-open-ii ec calls e =
+        let l : length (a ++ (b ++ (c ++ (r ∷ [])))) ≡ length a + (length b + (length c + 1)) = simp length-append in
         taken a _ _ _ ea (taken b _ _ _ (omega (arith, eb)) (taken c _ _ _ ec
-        (record { calls = calls; makes-text = refl; makes-tag = refl; tag-row-given = e; none-unused = refl })))
+        (record { calls = calls; makes-text = refl; makes-tag = refl; tag-row-given = e; none-missing = omega arith; none-unused = refl })))
 
 -- ---- the modes
 

@@ -3,7 +3,7 @@
 -- Assumes nothing.
 use mathlib.Core.Path.{_≡_}
 use mathlib.Core.List.{List, [], _∷_}
-use Prim.Native.Nat.{ℕ, _/_}
+use Prim.Native.Nat.{ℕ, _+_, _/_}
 use lib.ListN.{length, take, drop}
 use Rattle.octets.specs.Octets.{pick, _⊕_, zeroBlock}
 use Rattle.tweakey.specs.Tweakey.{expanded}
@@ -23,7 +23,8 @@ pub record Made : Type 0 where
   -- the row that gives the tag, and the block that it has to be given
   pub tag-row : Row
   pub enciphers : List ℕ
-  -- the rows that nothing took
+  -- the number of rows that were asked for, and the rows that nothing took
+  pub asked : ℕ
   pub unused : List Row
 
 -- the next n rows, and the rows after them, go into what is made
@@ -46,6 +47,7 @@ readI ad s message rows =
       tag = absorbed zeroBlock over-data ⊕ tag-row .to;
       tag-row = tag-row;
       enciphers = checksum (message (textOf (length s / 16) over-text s));
+      asked = blocks ad + blocks s + 1;
       unused = rows;
     })))
 
@@ -61,6 +63,7 @@ readSealII ad message rows =
       tag = tag-row .to;
       tag-row = tag-row;
       enciphers = absorbed (absorbed zeroBlock over-data) over-message;
+      asked = blocks ad + blocks message + 1 + blocks message;
       unused = rows;
     }))))
 
@@ -76,6 +79,7 @@ readOpenII ad cipher rows =
       tag = tag-row .to;
       tag-row = tag-row;
       enciphers = absorbed (absorbed zeroBlock over-data) over-message;
+      asked = blocks ad + blocks cipher + blocks (cipher ⊕ given keystream) + 1;
       unused = rows;
     }))))
 
@@ -97,12 +101,13 @@ pub data Calls (k : Subkeys) : List Row → Type 0 where
   no-more : Calls k []
   one-more : {r : Row} {rows : List Row} → Call k r → Calls k rows → Calls k (r ∷ rows)
 
--- text and tag are what the rows make; the tag's row was given what the others make; every row is used
+-- text and tag are what the rows make; the tag's row was given what the others make; every row asked for is there, and every row is used
 pub record Whole (k : Subkeys) (rows : List Row) (made : Made) (text tag : List ℕ) : Type 0 where
   pub calls : Calls k rows
   pub makes-text : made .text ≡ text
   pub makes-tag : made .tag ≡ tag
   pub tag-row-given : made .tag-row .from ≡ made .enciphers
+  pub none-missing : made .asked ≡ length rows
   pub none-unused : made .unused ≡ []
 
 abbrev pub MadeOf : Subkeys → List Row → (List Row → Made) → List ℕ → List ℕ → Type 0
