@@ -1,3 +1,4 @@
 pub mod Keystream
 pub mod Counts
 pub mod Outcomes
+pub mod Values

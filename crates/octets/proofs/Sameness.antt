@@ -70,10 +70,17 @@ module _ (a b : List ℕ) (i : ℕ) (ha : i < length a) (hb : i < length b) wher
       step d (getD a i 0) (getD b i 0) (same (drop (i + 1) a) (drop (i + 1) b)) (eqb d 0) (eqb (getD a i 0) (getD b i 0)) refl refl
       ∙ ap (λ (r : Bool). pick (eqb d 0) r false) (sym next) ∙ c
 
-pub compared-all : (a b : List ℕ) (d i : ℕ) → length a ≤ i → length b ≤ i → Compared a b d i → eqb d 0 ≡ same a b
+compared-all : (a b : List ℕ) (d i : ℕ) → length a ≤ i → length b ≤ i → Compared a b d i → eqb d 0 ≡ same a b
 unfolding same
 compared-all a b d i ha hb c = alone (eqb d 0) ∙ (rw (drop-of-length-le a ha, drop-of-length-le b hb) at c)
   where
     alone : (t : Bool) → t ≡ pick t true false
     alone true = refl
     alone false = refl
+
+-- a difference was seen, or none
+pub differ : (a b : List ℕ) (d i : ℕ) → length a ≤ i → length b ≤ i → Compared a b d i → 0 < d → false ≡ same a b
+differ a b d i ha hb c h = sym (ne-eqb d 0 (λ e. omega arith)) ∙ compared-all a b d i ha hb c
+
+pub agree : (a b : List ℕ) (d i : ℕ) → length a ≤ i → length b ≤ i → Compared a b d i → d ≡ 0 → true ≡ same a b
+agree a b d i ha hb c h = sym (eq-eqb d 0 h) ∙ compared-all a b d i ha hb c

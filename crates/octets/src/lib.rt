@@ -65,10 +65,13 @@ pub fn same_block(a: [u8; 16], b: [u8; 16]) -> bool
     ensures { λ r. ⌜ r ≡ same a b ⌝ }
 {
     let mut difference = 0u8;
-    for i in 0..16 {
+    for i in 0..a.len() {
         difference = difference | (a[i] ^ b[i]);
     }
-    difference == 0
+    if difference != 0 {
+        return false;
+    }
+    true
 }
 
 // Every byte zero.

@@ -15,7 +15,7 @@ ending x = replicate 15 0 ++ (x ∷ [])
 pub number-xored :
     keystreamTweak (ending 0x01) 1 ∷ keystreamTweak (ending 0xff) 1 ∷ []
     ≡ (0x80 ∷ replicate 14 0 ++ (0x00 ∷ [])) ∷ (0x80 ∷ replicate 14 0 ++ (0xfe ∷ [])) ∷ []
-unfolding keystreamTweak bigEndian _⊕_
+unfolding keystreamTweak numbered bigEndian _⊕_
 number-xored = refl
 
 -- the number's highest byte comes first

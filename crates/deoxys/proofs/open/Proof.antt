@@ -1,13 +1,14 @@
 -- `deoxys::open` meets its contract: the four ways an opening can go: refused, tag of a wrong length, the tag is the computed one, it is not.
 -- Assumes nothing.
-use mathlib.Core.Path.{_≡_, sym, ap, _∙_}
-use mathlib.Core.Bool.{Bool}
+use mathlib.Core.Path.{_≡_, refl, sym, ap, _∙_}
+use mathlib.Core.Bool.{Bool, true, false, false≢true}
 use mathlib.Core.List.{List}
 use Prim.Native.Nat.{ℕ}
 use native.Mathlib.Omega.{arith}
 use lib.Seq.{take-all}
 use borrow.Author.Needs.{needs}
 use Rattle.octets.specs.Octets.{same}
+use Rattle.octets.proofs.Sameness.{same-refl, same-eq}
 use Rattle.modes.specs.Rows.{Outcome}
 use Rattle.modes.specs.Answers.{answered}
 use Rattle.modes.specs.declared.Tagged.{Tagged}
@@ -37,17 +38,33 @@ same-block-requires c κs = search needs
 same-length : tie.Need-same-length
 same-length c = search needs
 
--- what the comparison of the block read and the tag computed says of the given tag and the definition's
-compared : (made : List ℕ → Outcome) {block tag : List ℕ} {tagged : Tagged} {right : Bool} → block ≡ tag → tagged ≡ answered (made block)
-    → same block (tagged .tag) ≡ right → same tag (made tag .tag) ≡ right
-compared made {block} {tag} read is e = sym (ap (λ (b : List ℕ). same b (made b .tag)) read) ∙ sym (ap (λ (t : Tagged). same block (t .tag)) is) ∙ e
+-- the block read is the given tag, and what was computed is the definition's: so they are the same or not as the two blocks are
+module _ (made : List ℕ → Outcome) {block tag : List ℕ} {tagged : Tagged} (read : block ≡ tag) (is : tagged ≡ answered (made block)) where
+  agreed : block ≡ tagged .tag → same tag (made tag .tag) ≡ true
+  agreed e =
+      let right : tag ≡ made tag .tag = sym read ∙ e ∙ ap (λ (t : Tagged). t .tag) is ∙ ap (λ (b : List ℕ). made b .tag) read in
+      ap (same tag) (sym right) ∙ same-refl tag
+
+  differed : (block ≡ tagged .tag → ⊥) → same tag (made tag .tag) ≡ false
+  differed n = by (same tag (made tag .tag)) refl
+    where
+      back : tag ≡ made tag .tag → block ≡ tagged .tag
+      back e = read ∙ e ∙ sym (ap (λ (b : List ℕ). made b .tag) read) ∙ sym (ap (λ (t : Tagged). t .tag) is)
+
+      by : (b : Bool) → same tag (made tag .tag) ≡ b → b ≡ false
+      by true e = absurd (n (back (same-eq tag _ e)))
+      by false e = refl
+
+unequal : {x y : List ℕ} → same x y ≡ false → x ≡ y → ⊥
+unequal {x} {y} h e = false≢true (sym h ∙ ap (same x) (sym e) ∙ same-refl x)
 
 returns-3 : tie.Need-returns-3
 returns-3 c =
     let recovered = c .before .before .before .before .before in
     let tests = recovered .before .before .before in
     let whole = recovered .before .before .read-block .ensures ∙ take-all 16 (tests .before .before .before .before .before .before .before .before .args .tag .now) (omega arith) in
-    let right = compared (opened _ _ _ _ _) whole (recovered .recover .ensures .0) (sym (c .before .same-block .ensures) ∙ c .if3 .taken) in
+    let seen = same-eq _ _ (sym (c .before .same-block .ensures) ∙ c .if3 .taken) in
+    let right = agreed (opened _ _ _ _ _) whole (recovered .recover .ensures .0) (cc) in
     simp (recovered .recover .ensures .1, recovered .recover .ensures .0, whole)
     (open-done _ _ _ _ _ _ (sym (tests .before .before .refusal .ensures) ∙ tests .before .if1 .left) (omega arith) right)
 
@@ -63,7 +80,8 @@ returns-4 c =
     let recovered = test .before .before .before .before .before in
     let tests = recovered .before .before .before in
     let whole = recovered .before .before .read-block .ensures ∙ take-all 16 (tests .before .before .before .before .before .before .before .before .args .tag .now) (omega arith) in
-    let wrong = compared (opened _ _ _ _ _) whole (recovered .recover .ensures .0) (sym (test .before .same-block .ensures) ∙ test .if3 .left) in
+    let seen = unequal (sym (test .before .same-block .ensures) ∙ test .if3 .left) in
+    let wrong = differed (opened _ _ _ _ _) whole (recovered .recover .ensures .0) (λ e. seen cc) in
     simp (c .before .before .clear .ensures, recovered .recover .kept .1 .1 .1 .1 .0, recovered .recover .ensures .0, whole)
     (open-wrong-tag _ _ _ _ _ _ (sym (tests .before .before .refusal .ensures) ∙ tests .before .if1 .left) (omega arith) wrong)
 

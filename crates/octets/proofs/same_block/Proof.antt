@@ -5,7 +5,7 @@ use Prim.Native.Nat.{_-_, _≤_}
 use native.Mathlib.Omega.{arith}
 use lib.ListN.{length}
 use borrow.Author.Needs.{needs}
-use Rattle.octets.proofs.Sameness.{Compared, compared-none, compared-more, compared-all}
+use Rattle.octets.proofs.Sameness.{Compared, compared-none, compared-more, differ, agree}
 use Rattle.octets.proofs.same_block.Statement.{statement}
 use Rattle.octets.proofs.same_block.Tie as tie
 
@@ -38,11 +38,18 @@ loop-again c = let a = c .before .before .args in
     (compared-more (a .t1) (a .t2) (l .i) (omega arith) (omega arith) (l .difference) (l .inv .0), omega arith)
 
 returns : tie.Need-returns Inv-loop μ-loop
-returns c = let a = c .before .before .args in
-    let l = c .before .loop in
+returns c = let a = c .before .before .before .args in
+    let l = c .before .before .loop in
     let m : length (a .t1) ≡ 16 = search needs in
     let n : length (a .t2) ≡ 16 = search needs in
-    compared-all (a .t1) (a .t2) (l .difference) (l .i) (omega arith) (omega arith) (l .inv .0)
+    differ (a .t1) (a .t2) (l .difference) (l .i) (omega arith) (omega arith) (l .inv .0) (omega arith)
+
+returns-2 : tie.Need-returns-2 Inv-loop μ-loop
+returns-2 c = let a = c .before .before .before .args in
+    let l = c .before .before .loop in
+    let m : length (a .t1) ≡ 16 = search needs in
+    let n : length (a .t2) ≡ 16 = search needs in
+    agree (a .t1) (a .t2) (l .difference) (l .i) (omega arith) (omega arith) (l .inv .0) (omega arith)
 
 pub same-block-spec : {M : Type 1} → statement M
 same-block-spec =
@@ -56,4 +63,5 @@ same-block-spec =
     add-i
     loop-less
     loop-again
-    returns)
+    returns
+    returns-2)
