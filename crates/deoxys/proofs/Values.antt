@@ -20,6 +20,6 @@ zeros-after-a-wrong-tag = refl
 abbrev number : ℕ → ℕ → ℕ → ℕ
 number suite key nonce = opening suite (replicate key 0) (replicate nonce 0) [] [] [] .answer .number
 
-pub tag-length-after-the-others : number 5 0 0 ∷ number 1 15 8 ∷ number 1 16 7 ∷ number 1 16 8 ∷ [] ≡ 1 ∷ 2 ∷ 3 ∷ 6 ∷ []
+pub tag-length-after-suite-key-and-nonce : number 5 0 0 ∷ number 1 15 8 ∷ number 1 16 7 ∷ number 1 16 8 ∷ [] ≡ 1 ∷ 2 ∷ 3 ∷ 6 ∷ []
 unfolding opening refusal
-tag-length-after-the-others = refl
+tag-length-after-suite-key-and-nonce = refl

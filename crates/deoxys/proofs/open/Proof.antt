@@ -64,7 +64,7 @@ returns-3 c =
     let tests = recovered .before .before .before in
     let whole = recovered .before .before .read-block .ensures ∙ take-all 16 (tests .before .before .before .before .before .before .before .before .args .tag .now) (omega arith) in
     let seen = same-eq _ _ (sym (c .before .same-block .ensures) ∙ c .if3 .taken) in
-    let right = agreed (opened _ _ _ _ _) whole (recovered .recover .ensures .0) (cc) in
+    let right = agreed (opened _ _ _ _ _) whole (recovered .recover .ensures .0) (search (seen, sym seen)) in
     simp (recovered .recover .ensures .1, recovered .recover .ensures .0, whole)
     (open-done _ _ _ _ _ _ (sym (tests .before .before .refusal .ensures) ∙ tests .before .if1 .left) (omega arith) right)
 
@@ -81,7 +81,7 @@ returns-4 c =
     let tests = recovered .before .before .before in
     let whole = recovered .before .before .read-block .ensures ∙ take-all 16 (tests .before .before .before .before .before .before .before .before .args .tag .now) (omega arith) in
     let seen = unequal (sym (test .before .same-block .ensures) ∙ test .if3 .left) in
-    let wrong = differed (opened _ _ _ _ _) whole (recovered .recover .ensures .0) (λ e. seen cc) in
+    let wrong = differed (opened _ _ _ _ _) whole (recovered .recover .ensures .0) (λ e. seen (search (e, sym e))) in
     simp (c .before .before .clear .ensures, recovered .recover .kept .1 .1 .1 .1 .0, recovered .recover .ensures .0, whole)
     (open-wrong-tag _ _ _ _ _ _ (sym (tests .before .before .refusal .ensures) ∙ tests .before .if1 .left) (omega arith) wrong)
 
