@@ -2,15 +2,11 @@
 -- that two rows make of 33 bytes of zeros, whose partial block is XORed with what a third gave.
 -- Assumes nothing.
 use mathlib.Core.Path.{_≡_, refl}
-use mathlib.Core.List.{List, [], _∷_, _++_}
-use Prim.Native.Nat.{ℕ}
+use mathlib.Core.List.{[], _∷_, _++_}
 use lib.ListN.{replicate}
 use Rattle.octets.specs.Octets.{_⊕_}
-use Rattle.modes.specs.Rows.{Row}
+use Rattle.modes.proofs.Values.{giving}
 use Rattle.deoxys_i.specs.DeoxysI.{textOf}
-
-abbrev giving : ℕ → Row
-giving x = record { tweak = []; from = []; to = replicate 16 x }
 
 pub every-block-made : textOf 2 (giving 1 ∷ giving 2 ∷ giving 3 ∷ []) (replicate 33 0) ≡ replicate 16 1 ++ (replicate 16 2 ++ (3 ∷ []))
 unfolding textOf _⊕_

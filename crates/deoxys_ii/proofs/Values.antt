@@ -2,14 +2,10 @@
 -- keystream of three rows.
 -- Assumes nothing.
 use mathlib.Core.Path.{_≡_, refl}
-use mathlib.Core.List.{List, [], _∷_, _++_}
-use Prim.Native.Nat.{ℕ}
+use mathlib.Core.List.{[], _∷_, _++_}
 use lib.ListN.{replicate}
-use Rattle.modes.specs.Rows.{Row}
+use Rattle.modes.proofs.Values.{giving}
 use Rattle.deoxys_ii.specs.DeoxysII.{given}
-
-abbrev giving : ℕ → Row
-giving x = record { tweak = []; from = []; to = replicate 16 x }
 
 pub every-block-given : given (giving 1 ∷ giving 2 ∷ giving 3 ∷ []) ≡ replicate 16 1 ++ (replicate 16 2 ++ replicate 16 3)
 unfolding given

@@ -1,4 +1,4 @@
--- Two tables that undo each other, as document 01, "AES pieces", wants it of the code's own: SBOX and INV_SBOX.
+-- Two tables that undo each other, as document 01, "Code places and their forms", wants it of the code's own: SBOX and INV_SBOX.
 -- Assumes nothing.
 use mathlib.Core.Path.{_≡_}
 use mathlib.Core.List.{List}

@@ -14,9 +14,9 @@ pub fn double(x: u8) -> u8
 }
 
 // Both tables, as they stand in the code.
-pub struct Tables {
-    pub forward: [u8; 256],
-    pub inverse: [u8; 256],
+struct Tables {
+    forward: [u8; 256],
+    inverse: [u8; 256],
 }
 
 // Nothing calls it: its contract is the law that the code's tables undo each other.

@@ -1,5 +1,5 @@
 -- `suites::refusal` meets its contract: each return is the first refusal that applies, in the order of document 01. What the code's tests
--- show is put into the laws' words by arithmetic, so that a test may be written in any way that says the same.
+-- of the suite and of the two limits show is put into the laws' words by arithmetic, so that a comparison may be turned round.
 -- Assumes nothing.
 use mathlib.Core.Path.{sym, _∙_}
 use native.Mathlib.Omega.{arith}
