@@ -5,6 +5,7 @@ ghost use Rattle.deoxys_bc.specs.Cipher.{encipher, decipher};
 use tweakey::Subkeys;
 
 // The block cipher calls made so far.
+#[repr(C)]
 pub struct Count {
     pub rows: usize,
 }

@@ -3,18 +3,15 @@
 use mathlib.Core.Path.{_≡_}
 use mathlib.Core.Bool.{Bool, true, false}
 use mathlib.Core.List.{List, [], _∷_, _++_}
-use Prim.Native.Nat.{ℕ, _+_, _/_, _%_}
+use Prim.Native.Nat.{ℕ, _+_}
 use native.Mathlib.Omega.{arith}
-use lib.Dec.{eqb}
 use lib.ListN.{length, length-append}
-use Rattle.octets.specs.Octets.{pick, _⊕_, zeroBlock}
-use Rattle.deoxys_bc.specs.Cipher.{encipher}
+use Rattle.octets.specs.Octets.{_⊕_, zeroBlock}
 use Rattle.tweakey.specs.declared.Subkeys.{Subkeys}
-use Rattle.tweaks.specs.Tweaks.{nonceTweak}
 use Rattle.modes.specs.Rows.{Row, dataRows, absorbed}
 use Rattle.modes.specs.Answers.{answered}
 use Rattle.modes.proofs.Counts.{answer}
-use Rattle.deoxys_i.specs.DeoxysI.{checksum, cryptRows, crypted, sealI, openI}
+use Rattle.deoxys_i.specs.DeoxysI.{checksum, sumRow, cryptRows, crypted, sealI, openI}
 use Rattle.deoxys_i.specs.Direction.{direction}
 
 joined : (a b c : List Row) → length a + length b + length c ≡ length (a ++ (b ++ c))
@@ -23,9 +20,7 @@ joined a b c = simp length-append (omega arith)
 module _ (k : Subkeys) (nonce ad s : List ℕ) where
   -- for a number of bytes that is the message's
   abbrev tagI : ℕ → List ℕ → List ℕ
-  tagI bytes message =
-      absorbed zeroBlock (dataRows k ad)
-      ⊕ encipher k (nonceTweak (pick (eqb (bytes % 16) 0) 1 5) nonce ((bytes + 15) / 16)) (checksum message)
+  tagI bytes message = absorbed zeroBlock (dataRows k ad) ⊕ sumRow k nonce bytes (checksum message) .to
 
   abbrev rowsI : Bool → ℕ
   rowsI opening = length (dataRows k ad) + length (cryptRows (direction opening k) k nonce s) + 1

@@ -4,10 +4,10 @@ use mathlib.Core.List.{List, [], _∷_, _++_}
 use Prim.Native.Nat.{ℕ, zero, suc, _+_, _*_, _/_, _%_}
 use lib.Dec.{eqb}
 use lib.ListN.{length, take, drop}
-use Rattle.octets.specs.Octets.{pick, _⊕_, zeroBlock, blockAt, padded}
+use Rattle.octets.specs.Octets.{pick, _⊕_, zeroBlock, blocksOf, blockAt, padded}
 use Rattle.tweakey.specs.declared.Subkeys.{Subkeys}
 use Rattle.tweaks.specs.Tweaks.{nonceTweak}
-use Rattle.modes.specs.Rows.{Row, enciphered, deciphered, Outcome, blocks, partialRow, dataRows, absorbed}
+use Rattle.modes.specs.Rows.{Row, enciphered, deciphered, Outcome, partialRow, dataRows, absorbed}
 
 -- n full blocks from number i on, kind 0, by a call; and the enciphered zero block, kind 4, for a partial one
 unfoldable pub messageRows : (List ℕ → List ℕ → Row) → Subkeys → List ℕ → ℕ → ℕ → List ℕ → List Row
@@ -30,19 +30,32 @@ unfoldable pub checksumOf : List ℕ → List ℕ → ℕ → ℕ → List ℕ
 checksumOf s sum zero i = padIn sum (drop (16 * i) s)
 checksumOf s sum (suc n) i = checksumOf s (sum ⊕ blockAt s i) n (i + 1)
 
-abbrev pub checksum : List ℕ → List ℕ
-checksum s = checksumOf s zeroBlock (length s / 16) 0
+-- what a sum becomes by a text
+abbrev pub summed : List ℕ → List ℕ → List ℕ
+summed sum s = checksumOf s sum (length s / 16) 0
 
--- kind 1 without a partial block, kind 5 with one; the number counts the partial block
+abbrev pub checksum : List ℕ → List ℕ
+checksum s = summed zeroBlock s
+
+-- of so many bytes with this checksum: kind 1 without a partial block, kind 5 with one; the number counts the partial block
+abbrev pub sumRow : Subkeys → List ℕ → ℕ → List ℕ → Row
+sumRow k nonce bytes sum = enciphered k (nonceTweak (pick (eqb (bytes % 16) 0) 1 5) nonce (blocksOf bytes)) sum
+
 abbrev pub tagRow : Subkeys → List ℕ → List ℕ → Row
-tagRow k nonce message =
-    enciphered k (nonceTweak (pick (eqb (length message % 16) 0) 1 5) nonce (blocks message)) (checksum message)
+tagRow k nonce message = sumRow k nonce (length message) (checksum message)
+
+-- a text whose first block has this number
+abbrev pub rowsFrom : ℕ → (List ℕ → List ℕ → Row) → Subkeys → List ℕ → List ℕ → List Row
+rowsFrom first call k nonce s = messageRows call k nonce (length s / 16) first s
+
+abbrev pub textFrom : ℕ → (List ℕ → List ℕ → Row) → Subkeys → List ℕ → List ℕ → List ℕ
+textFrom first call k nonce s = textOf (length s / 16) (rowsFrom first call k nonce s) s
 
 abbrev pub cryptRows : (List ℕ → List ℕ → Row) → Subkeys → List ℕ → List ℕ → List Row
-cryptRows call k nonce s = messageRows call k nonce (length s / 16) 0 s
+cryptRows call k nonce s = rowsFrom 0 call k nonce s
 
 abbrev pub crypted : (List ℕ → List ℕ → Row) → Subkeys → List ℕ → List ℕ → List ℕ
-crypted call k nonce s = textOf (length s / 16) (cryptRows call k nonce s) s
+crypted call k nonce s = textFrom 0 call k nonce s
 
 -- a text worked on by a call, and the tag of the message
 abbrev pub outcome : (List ℕ → List ℕ → Row) → Subkeys → List ℕ → List ℕ → List ℕ → List ℕ → Outcome

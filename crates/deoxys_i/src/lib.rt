@@ -5,11 +5,10 @@ ghost use Prim.Native.Nat.{_+_, _*_, _/_, _%_, _≤_, _<_, _^_};
 ghost use lib.Dec.{eqb};
 ghost use lib.ListN.{length, take, drop};
 ghost use Rattle.octets.specs.Octets.{pick, _⊕_};
-ghost use Rattle.deoxys_bc.specs.Cipher.{encipher};
 ghost use Rattle.tweaks.specs.Tweaks.{nonceTweak};
 ghost use Rattle.modes.specs.Answers.{answered};
 ghost use Rattle.deoxys_i.specs.Direction.{direction};
-ghost use Rattle.deoxys_i.specs.DeoxysI.{checksum, cryptRows, crypted, sealI, openI};
+ghost use Rattle.deoxys_i.specs.DeoxysI.{summed, sumRow, rowsFrom, textFrom, sealI, openI};
 use deoxys_bc::Called;
 use deoxys_bc::Count;
 use modes::Tagged;
@@ -34,10 +33,11 @@ fn crypt_block(k: Subkeys, tweak: [u8; 16], block: [u8; 16], opening: bool, coun
     deoxys_bc::encipher(k, tweak, block, count)
 }
 
-// Full block i of the buffer, in place.
+// Full block i of the buffer, in place, under its number in the message.
 fn crypt_turn(
     k: Subkeys,
     nonce: &[u8],
+    number: usize,
     buffer: &mut [u8],
     i: usize,
     opening: bool,
@@ -46,32 +46,41 @@ fn crypt_turn(
     requires { ⌜ (k .rounds ≤ 16) × (length (now nonce) ≡ 8) × (16 * i + 16 ≤ length (now buffer)) × (count .rows + 1 < 2 ^ 64) ⌝ }
     ensures { λ r. ⌜ r ≡ record { rows = count .rows + 1 } ⌝ }
     ensures { λ r. ⌜ now (buffer .exit) ≡ take (16 * i) (now (buffer .entry))
-        ++ (direction opening k (nonceTweak 0 (now (nonce .entry)) i) (take 16 (drop (16 * i) (now (buffer .entry)))) .to
+        ++ (direction opening k (nonceTweak 0 (now (nonce .entry)) number) (take 16 (drop (16 * i) (now (buffer .entry)))) .to
         ++ drop (16 * i + 16) (now (buffer .entry))) ⌝ }
 {
     let at = 16 * i;
     let block = octets::read_block(buffer, at);
-    let tweak = tweaks::nonce_tweak(KIND_MESSAGE, nonce, i);
+    let tweak = tweaks::nonce_tweak(KIND_MESSAGE, nonce, number);
     let called = crypt_block(k, tweak, block, opening, count);
     let given = called.block;
     octets::write_block(buffer, at, given);
     called.count
 }
 
-// The message in place: full blocks by calls, the partial one, lent as a part, XORed with an enciphered zero block.
-fn crypt_message(k: Subkeys, nonce: &[u8], buffer: &mut [u8], opening: bool, count: Count) -> Count
-    requires { ⌜ (k .rounds ≤ 16) × (length (now nonce) ≡ 8) × (count .rows + length (now buffer) / 16 + 2 < 2 ^ 64) ⌝ }
-    ensures { λ r. ⌜ r ≡ record { rows = count .rows + length (cryptRows (direction opening k) k (now (nonce .entry)) (now (buffer .entry))) } ⌝ }
-    ensures { λ r. ⌜ now (buffer .exit) ≡ crypted (direction opening k) k (now (nonce .entry)) (now (buffer .entry)) ⌝ }
+// The message, or a piece of it, in place, its first block under this number: full blocks by calls, the partial one, lent as a part, XORed
+// with an enciphered zero block.
+pub fn crypt_message(
+    k: Subkeys,
+    nonce: &[u8],
+    first: usize,
+    buffer: &mut [u8],
+    opening: bool,
+    count: Count,
+) -> Count
+    requires { ⌜ (k .rounds ≤ 16) × (length (now nonce) ≡ 8) × (first + length (now buffer) / 16 < 2 ^ 64)
+        × (count .rows + length (now buffer) / 16 + 2 < 2 ^ 64) ⌝ }
+    ensures { λ r. ⌜ r ≡ record { rows = count .rows + length (rowsFrom first (direction opening k) k (now (nonce .entry)) (now (buffer .entry))) } ⌝ }
+    ensures { λ r. ⌜ now (buffer .exit) ≡ textFrom first (direction opening k) k (now (nonce .entry)) (now (buffer .entry)) ⌝ }
 {
     let n = buffer.len() / 16;
     let mut running = count;
     for i in 0..n {
-        running = crypt_turn(k, nonce, buffer, i, opening, running);
+        running = crypt_turn(k, nonce, first + i, buffer, i, opening, running);
     }
     let at = 16 * n;
     if at < buffer.len() {
-        let tweak = tweaks::nonce_tweak(KIND_MESSAGE_LAST, nonce, n);
+        let tweak = tweaks::nonce_tweak(KIND_MESSAGE_LAST, nonce, first + n);
         let called = deoxys_bc::encipher(k, tweak, [0u8; 16], running);
         let given = called.block;
         octets::xor_into(&mut buffer[at..], given);
@@ -80,12 +89,12 @@ fn crypt_message(k: Subkeys, nonce: &[u8], buffer: &mut [u8], opening: bool, cou
     running
 }
 
-// XOR of the full blocks and the padded partial one.
-fn checksum(message: &[u8]) -> [u8; 16]
-    ensures { λ r. ⌜ r ≡ checksum (now (message .entry)) ⌝ }
+// A sum XOR the full blocks and the padded partial one.
+pub fn checksum(from: [u8; 16], message: &[u8]) -> [u8; 16]
+    ensures { λ r. ⌜ r ≡ summed from (now (message .entry)) ⌝ }
 {
     let n = message.len() / 16;
-    let mut sum = [0u8; 16];
+    let mut sum = from;
     for i in 0..n {
         let next = octets::xor_block(sum, octets::read_block(message, 16 * i));
         sum = next;
@@ -108,7 +117,7 @@ fn tag_kind(bytes: usize) -> u8
 }
 
 // Auth XOR the enciphered checksum; the number counts the partial block.
-fn tag(
+pub fn tag(
     k: Subkeys,
     nonce: &[u8],
     bytes: usize,
@@ -118,7 +127,7 @@ fn tag(
 ) -> Tagged
     requires { ⌜ (k .rounds ≤ 16) × (length (now nonce) ≡ 8) × (bytes + 15 < 2 ^ 64) × (count .rows + 1 < 2 ^ 64) ⌝ }
     ensures { λ r. ⌜ r ≡ record {
-      tag = auth ⊕ encipher k (nonceTweak (pick (eqb (bytes % 16) 0) 1 5) (now (nonce .entry)) ((bytes + 15) / 16)) sum;
+      tag = auth ⊕ sumRow k (now (nonce .entry)) bytes sum .to;
       count = record { rows = count .rows + 1 };
     } ⌝ }
 {
@@ -137,9 +146,9 @@ pub fn seal(k: Subkeys, nonce: &[u8], ad: &[u8], buffer: &mut [u8]) -> Tagged
     ensures { λ r. ⌜ now (buffer .exit) ≡ sealI k (now (nonce .entry)) (now (ad .entry)) (now (buffer .entry)) .text ⌝ }
 {
     let tally = modes::compute_ad_tag(k, ad);
-    let sum = checksum(buffer);
+    let sum = checksum([0u8; 16], buffer);
     let authenticated = tally.count;
-    let count = crypt_message(k, nonce, buffer, false, authenticated);
+    let count = crypt_message(k, nonce, 0, buffer, false, authenticated);
     let auth = tally.sum;
     tag(k, nonce, buffer.len(), sum, auth, count)
 }
@@ -152,8 +161,8 @@ pub fn open(k: Subkeys, nonce: &[u8], ad: &[u8], buffer: &mut [u8]) -> Tagged
 {
     let tally = modes::compute_ad_tag(k, ad);
     let authenticated = tally.count;
-    let count = crypt_message(k, nonce, buffer, true, authenticated);
-    let recovered_sum = checksum(buffer);
+    let count = crypt_message(k, nonce, 0, buffer, true, authenticated);
+    let recovered_sum = checksum([0u8; 16], buffer);
     let auth = tally.sum;
     tag(k, nonce, buffer.len(), recovered_sum, auth, count)
 }

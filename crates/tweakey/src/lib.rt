@@ -7,6 +7,7 @@ ghost use Rattle.octets.specs.Octets.{_⊕_, table, eachByte};
 ghost use Rattle.tweakey.specs.Tweakey.{places, h, lfsr2, lfsr3, tk2, tk3, roundConstant, constantBlock, flat, expanded, roundKey};
 
 // The expanded key: the key parts of all round keys, flat (240 or 272 bytes, the rest zero), and the number of rounds.
+#[repr(C)]
 pub struct Subkeys {
     pub bytes: [u8; 272],
     pub rounds: usize,

@@ -5,7 +5,6 @@ use Prim.Native.Nat.{_-_, _≤_}
 use native.Mathlib.Nat.{sub-zero}
 use native.Mathlib.Omega.{arith}
 use borrow.Author.Needs.{needs}
-use Rattle.octets.specs.Octets.{zeroBlock}
 use Rattle.octets.proofs.Parts.{rest-is}
 use Rattle.deoxys_i.specs.DeoxysI.{checksumOf}
 use Rattle.deoxys_i.proofs.Checksums.{sum-turn, sum-part, sum-none}
@@ -59,12 +58,10 @@ xor-block-requires-2 : tie.Need-xor-block-requires-2 Inv-loop μ-loop
 xor-block-requires-2 c κs = search needs
 
 returns : tie.Need-returns Inv-loop μ-loop
-unfolding zeroBlock
 returns c = let l = c .before .before .before .before .before .loop in
     rw (c .xor-block2 .ensures, c .before .pad .ensures, rest-is) (sum-part _ _ _ (l .sum) _ (l .inv .0) (omega arith) (omega arith))
 
 returns-2 : tie.Need-returns-2 Inv-loop μ-loop
-unfolding zeroBlock
 returns-2 c = let l = c .before .before .loop in
     sum-none _ _ _ (l .sum) _ (l .inv .0) (omega arith) (omega arith)
 

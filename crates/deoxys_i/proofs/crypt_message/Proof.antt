@@ -16,16 +16,19 @@ use Rattle.deoxys_i.proofs.crypt_message.Statement.{statement}
 use Rattle.deoxys_i.proofs.crypt_message.Tie as tie
 
 abbrev Inv-loop : tie.InvT-loop
-Inv-loop k nonce buffer₀ opening n running₀ i₀ buffer running i =
-    Crypting (direction opening k) k nonce n i buffer (running .rows) (textOf n (messageRows (direction opening k) k nonce n 0 buffer₀) buffer₀)
-    (running₀ .rows + length (messageRows (direction opening k) k nonce n 0 buffer₀))
+Inv-loop k nonce first buffer₀ opening n running₀ i₀ buffer running i =
+    Crypting (direction opening k) k nonce first n i buffer (running .rows) (textOf n (messageRows (direction opening k) k nonce n first buffer₀) buffer₀)
+    (running₀ .rows + length (messageRows (direction opening k) k nonce n first buffer₀))
     × (i ≤ n) × (length buffer ≡ length buffer₀) × (running .rows ≡ running₀ .rows + i)
 
 abbrev μ-loop : tie.MeasureT-loop
-μ-loop k nonce buffer₀ opening n running₀ i₀ buffer running i = n - i
+μ-loop k nonce first buffer₀ opening n running₀ i₀ buffer running i = n - i
 
 loop-holds : tie.Need-loop-holds Inv-loop μ-loop
-loop-holds c = (crypt-start _ _ _ _ _ _, search needs, refl, omega arith)
+loop-holds c = (crypt-start _ _ _ _ _ _ _, search needs, refl, omega arith)
+
+add-crypt-turn : tie.Need-add-crypt-turn Inv-loop μ-loop
+add-crypt-turn c = search needs
 
 crypt-turn-requires : tie.Need-crypt-turn-requires Inv-loop μ-loop
 crypt-turn-requires c κs = search needs
@@ -38,15 +41,18 @@ loop-less c = search needs
 
 loop-again : tie.Need-loop-again Inv-loop μ-loop
 loop-again c = let l = c .before .before .before .before .before .loop in
-    let t = crypt-turn _ _ _ _ _ _ _ _ _ (l .inv .0)
-    (c .before .before .crypt-turn .last .1 .1 .0)
+    let t = crypt-turn _ _ _ _ _ _ _ _ _ _ (l .inv .0)
+    (c .before .before .crypt-turn .last .1 .1 .1 .0)
     (search needs) (search needs)
-    (c .before .before .crypt-turn .kept .1 .1 .0)
+    (c .before .before .crypt-turn .kept .1 .1 .1 .0)
     (c .before .before .crypt-turn .ensures .1) in
-    rw (c .before .before .crypt-turn .ensures .0) (t, search needs, c .before .before .crypt-turn .kept .1 .1 .0 ∙ l .inv .2, omega arith)
+    rw (c .before .before .crypt-turn .ensures .0) (t, search needs, c .before .before .crypt-turn .kept .1 .1 .1 .0 ∙ l .inv .2, omega arith)
 
 mul-at : tie.Need-mul-at Inv-loop μ-loop
 mul-at c = search needs
+
+add-nonce-tweak : tie.Need-add-nonce-tweak Inv-loop μ-loop
+add-nonce-tweak c = search needs
 
 nonce-tweak-requires : tie.Need-nonce-tweak-requires Inv-loop μ-loop
 nonce-tweak-requires c κs = search needs
@@ -72,7 +78,7 @@ same-length c = search needs
 returns : tie.Need-returns Inv-loop μ-loop
 unfolding zeroBlock
 returns c = let l = c .before .before .before .before .before .before .before .before .before .before .loop in
-    let t = crypt-part _ _ _ _ _ _ _ _ _ (l .inv .0) (omega arith) (omega arith) in
+    let t = crypt-part _ _ _ _ _ _ _ _ _ _ (l .inv .0) (omega arith) (omega arith) in
     rw (
       rest-put,
       c .before .before .before .xor-into .ensures,
@@ -87,7 +93,7 @@ same-length-2 c = search needs
 
 returns-2 : tie.Need-returns-2 Inv-loop μ-loop
 returns-2 c = let l = c .before .before .loop in
-    let t = crypt-none _ _ _ _ _ _ _ _ _ (l .inv .0) (omega arith) (omega arith) in
+    let t = crypt-none _ _ _ _ _ _ _ _ _ _ (l .inv .0) (omega arith) (omega arith) in
     (counted (t .0), t .1)
 
 pub crypt-message-spec : {M : Type 1} → statement M
@@ -97,11 +103,13 @@ crypt-message-spec =
     Inv-loop
     μ-loop
     loop-holds
+    add-crypt-turn
     crypt-turn-requires
     add-i
     loop-less
     loop-again
     mul-at
+    add-nonce-tweak
     nonce-tweak-requires
     encipher-requires
     sub-xor-into

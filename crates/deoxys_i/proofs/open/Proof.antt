@@ -3,6 +3,7 @@
 use mathlib.Core.Bool.{true}
 use native.Mathlib.Omega.{arith}
 use borrow.Author.Needs.{needs}
+use Rattle.octets.specs.Octets.{zeroBlock}
 use Rattle.deoxys_i.specs.Direction.{direction}
 use Rattle.deoxys_i.specs.DeoxysI.{openI}
 use Rattle.modes.proofs.Counts.{auth-count}
@@ -17,7 +18,7 @@ compute-ad-tag-requires c κs = search needs
 crypt-message-requires : tie.Need-crypt-message-requires
 crypt-message-requires c κs = let a = c .before .before .before .before .before .before .args in
     let ad = auth-count (a .k) 32 96 (a .ad .now) in
-    rw (c .before .before .compute-ad-tag .ensures) (search needs, search needs, omega arith)
+    rw (c .before .before .compute-ad-tag .ensures) (search needs, search needs, search needs, omega arith)
 
 checksum-requires : tie.Need-checksum-requires
 checksum-requires c κs = search needs
@@ -36,7 +37,7 @@ same-length : tie.Need-same-length
 same-length c = search needs
 
 returns : tie.Need-returns
-unfolding openI
+unfolding openI zeroBlock
 returns c = let a = c .before .before .before .before .before .before .before .before .before .before .before .before .before .args in (
   rw (
     c .tag .ensures,

@@ -3,6 +3,7 @@
 use mathlib.Core.Bool.{false}
 use native.Mathlib.Omega.{arith}
 use borrow.Author.Needs.{needs}
+use Rattle.octets.specs.Octets.{zeroBlock}
 use Rattle.deoxys_i.specs.Direction.{direction}
 use Rattle.deoxys_i.specs.DeoxysI.{sealI}
 use Rattle.modes.proofs.Counts.{auth-count}
@@ -20,7 +21,7 @@ checksum-requires c κs = search needs
 crypt-message-requires : tie.Need-crypt-message-requires
 crypt-message-requires c κs = let a = c .before .before .before .before .before .before .before .before .args in
     let ad = auth-count (a .k) 32 96 (a .ad .now) in
-    rw (c .before .before .before .before .compute-ad-tag .ensures) (search needs, search needs, omega arith)
+    rw (c .before .before .before .before .compute-ad-tag .ensures) (search needs, search needs, search needs, omega arith)
 
 tag-requires : tie.Need-tag-requires
 tag-requires c κs = let a = c .before .before .before .before .before .before .before .before .before .before .before .before .args in
@@ -33,7 +34,7 @@ same-length : tie.Need-same-length
 same-length c = search needs
 
 returns : tie.Need-returns
-unfolding sealI
+unfolding sealI zeroBlock
 returns c = let a = c .before .before .before .before .before .before .before .before .before .before .before .before .before .args in (
   rw (
     c .tag .ensures,
@@ -41,7 +42,7 @@ returns c = let a = c .before .before .before .before .before .before .before .b
     c .before .before .before .before .before .before .before .checksum .ensures,
     c .before .before .before .before .before .before .before .before .before .compute-ad-tag .ensures,
   )
-      (sealed-i (a .k) (a .nonce .now) (a .ad .now) (a .buffer .now) _ (c .before .before .before .before .crypt-message .kept .1 .1 .0)),
+      (sealed-i (a .k) (a .nonce .now) (a .ad .now) (a .buffer .now) _ (c .before .before .before .before .crypt-message .kept .1 .1 .1 .0)),
   c .before .before .before .before .crypt-message .ensures .1,
 )
 
