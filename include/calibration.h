@@ -1,11 +1,11 @@
 /* The interface of the static library libcalibration.a.
  *
  * Cipher operations begin with deoxys_: Deoxys-I and Deoxys-II, sealing and
- * opening in place, with a detached tag.
+ * opening in place, with a detached tag; and Deoxys-I sealing by pieces.
  *
  * A byte string is a pointer and then a count. A pointer may be NULL where
- * its count is 0. The buffer may not overlap any other argument. Key, nonce,
- * data and the tag to open with are only read. */
+ * its count is 0. The buffer or the piece may not overlap any other argument.
+ * Key, nonce, data and the tag to open with are only read. */
 #ifndef CALIBRATION_H
 #define CALIBRATION_H
 
@@ -29,8 +29,8 @@ enum {
 
 #define DEOXYS_TAG_LENGTH ((size_t)16)
 
-/* The number in an answer. They are checked in the order 1 to 7, and the
- * first that applies is given; 0 where none does.
+/* The number in an answer of deoxys_seal and deoxys_open. They are checked in
+ * the order 1 to 7, and the first that applies is given; 0 where none does.
  *
  *            buffer             tag of a sealing   rows
  *   0        the result         the tag            the block cipher calls made
@@ -45,7 +45,8 @@ enum {
     DEOXYS_DATA_TOO_LONG = 4,    /* associated data over DEOXYS_LIMIT */
     DEOXYS_MESSAGE_TOO_LONG = 5, /* message or ciphertext over DEOXYS_LIMIT */
     DEOXYS_BAD_TAG_LENGTH = 6,   /* opening: not DEOXYS_TAG_LENGTH */
-    DEOXYS_WRONG_TAG = 7         /* opening: not the tag that was computed */
+    DEOXYS_WRONG_TAG = 7,        /* opening: not the tag that was computed */
+    DEOXYS_NO_MORE = 8           /* by pieces: the state takes no such call */
 };
 
 /* With a and m the blocks of data and message, a partial one counted, the
@@ -75,6 +76,84 @@ struct deoxys_opened deoxys_open(uint8_t suite,
                                  const uint8_t *data, size_t data_length,
                                  uint8_t *buffer, size_t buffer_length,
                                  const uint8_t *tag, size_t tag_length);
+
+/* Sealing Deoxys-I (suites 1 and 2) by pieces.
+ *
+ * deoxys_begin gives a state, deoxys_take enciphers the next piece of the
+ * message in place, deoxys_finish gives the tag. Each call takes the state by
+ * value and hands it back; nothing is kept elsewhere. The next call takes what
+ * the last one handed back:
+ *
+ *     struct deoxys_pieces state = deoxys_begin(...);
+ *     struct deoxys_taken taken = deoxys_take(state, piece, piece_length);
+ *     state = taken.pieces;
+ *     ...
+ *     struct deoxys_finished finished = deoxys_finish(state);
+ *
+ * Where every number is 0, the joined pieces, the tag and the rows are those
+ * of one deoxys_seal of the joined message.
+ *
+ * A piece has any length, 0 too. One that is no multiple of 16 bytes is the
+ * last. The numbers, in the order in which they are checked:
+ *
+ *   begin's  in the state: 1 where the suite isn't 1 or 2; 2 to 4 as above.
+ *            Every later call with this state answers with it
+ *   8        a piece after one that was no multiple of 16 bytes; a piece or a
+ *            finish after a finish; any call with a state that no call gave
+ *   5        a piece that would bring the message over DEOXYS_LIMIT
+ *
+ * A refused call hands back the state as it stood and leaves the piece as it
+ * was; a refused finish has 16 zero bytes as tag and 0 rows. After a 5 the
+ * state still takes a shorter piece.
+ *
+ * A state holds key material, a finished one too: wipe it when it is done
+ * with. An old copy of a state goes on from where that state stood, so that
+ * two messages could be sealed under one nonce, which Deoxys-I forbids: use
+ * each state once. */
+
+/* The expanded key. */
+struct deoxys_subkeys {
+    uint8_t bytes[272];
+    size_t rounds;
+};
+
+/* The running state. Read its first number; leave the rest to the library. */
+struct deoxys_pieces {
+    uint8_t number; /* begin's */
+    uint8_t stage;  /* 0 takes pieces, 1 was closed by its last, 2 is finished */
+    struct deoxys_subkeys keys;
+    uint8_t nonce[8];
+    uint8_t auth[16];
+    uint8_t checksum[16];
+    size_t total; /* bytes taken so far */
+    size_t rows;  /* block cipher calls made so far */
+};
+
+struct deoxys_taken {
+    struct deoxys_pieces pieces;
+    uint8_t number;
+};
+
+/* The rows are all block cipher calls from the begin on. */
+struct deoxys_finished {
+    struct deoxys_pieces pieces;
+    uint8_t number;
+    uint8_t tag[16];
+    size_t rows;
+};
+
+/* Begins a message, with its associated data. */
+struct deoxys_pieces deoxys_begin(uint8_t suite,
+                                  const uint8_t *key, size_t key_length,
+                                  const uint8_t *nonce, size_t nonce_length,
+                                  const uint8_t *data, size_t data_length);
+
+/* Enciphers the next piece of the message in place. */
+struct deoxys_taken deoxys_take(struct deoxys_pieces state,
+                                uint8_t *piece, size_t piece_length);
+
+/* Gives the tag of all that was taken. */
+struct deoxys_finished deoxys_finish(struct deoxys_pieces state);
 
 #ifdef __cplusplus
 }

@@ -1,6 +1,7 @@
 // The library's top: every function that C and Rust link, each with the very contract of what it wraps, and nothing else.
 // `include/calibration.h` declares them.
 ghost use Rattle.deoxys.specs.Entry.{SealAllows, OpenAllows};
+ghost use Rattle.pieces.specs.ByPieces.{BeginAllows, TakeAllows, FinishAllows};
 
 #[no_mangle]
 pub extern "C" fn deoxys_seal(
@@ -29,4 +30,25 @@ pub extern "C" fn deoxys_open(
         (record { answer = r; buffer = now (buffer .exit) }) ⌝ }
 {
     deoxys::open(suite, key, nonce, ad, buffer, tag)
+}
+
+#[no_mangle]
+pub extern "C" fn deoxys_begin(suite: u8, key: &[u8], nonce: &[u8], ad: &[u8]) -> pieces::Pieces
+    ensures { λ r. ⌜ BeginAllows suite (now (key .entry)) (now (nonce .entry)) (now (ad .entry)) r ⌝ }
+{
+    pieces::begin(suite, key, nonce, ad)
+}
+
+#[no_mangle]
+pub extern "C" fn deoxys_take(state: pieces::Pieces, piece: &mut [u8]) -> pieces::Taken
+    ensures { λ r. ⌜ TakeAllows state (now (piece .entry)) (record { answer = r; piece = now (piece .exit) }) ⌝ }
+{
+    state.take(piece)
+}
+
+#[no_mangle]
+pub extern "C" fn deoxys_finish(state: pieces::Pieces) -> pieces::Finished
+    ensures { λ r. ⌜ FinishAllows state r ⌝ }
+{
+    state.finish()
 }

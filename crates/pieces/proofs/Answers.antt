@@ -1,0 +1,59 @@
+-- The definition's answers, case by case.
+-- Assumes nothing.
+use mathlib.Core.Path.{_≡_}
+use mathlib.Core.List.{List, append-nil}
+use Prim.Native.Nat.{ℕ}
+use lib.ListN.{length, replicate}
+use borrow.Author.Tests.{eq-eqb, ne-eqb}
+use Rattle.octets.specs.Octets.{zeroBlock}
+use Rattle.tweakey.specs.Tweakey.{expanded}
+use Rattle.modes.specs.Rows.{dataRows, absorbed}
+use Rattle.deoxys_i.specs.DeoxysI.{messageRows, checksumOf}
+use Rattle.pieces.specs.declared.Pieces.{Pieces}
+use Rattle.pieces.specs.declared.Finished.{Finished}
+use Rattle.pieces.specs.ByPieces.{void, beginRefusal, beginning, standing, takeRefusal, Taking, pieceText, took, taking, finished, finishing}
+
+module _ (suite : ℕ) (key nonce ad : List ℕ) where
+  abbrev number : ℕ
+  number = beginRefusal suite (length key) (length nonce) (length ad)
+
+  pub begin-refused : (number ≡ 0 → ⊥) → void number ≡ beginning suite key nonce ad
+  unfolding beginning
+  begin-refused h = simp (ne-eqb _ _ h)
+
+  pub begun : number ≡ 0
+      → _≡_ {A = Pieces}
+      (record {
+        number = 0;
+        stage = 0;
+        keys = expanded key;
+        nonce = nonce;
+        auth = absorbed zeroBlock (dataRows (expanded key) ad);
+        checksum = replicate 16 0;
+        total = 0;
+        count = record { rows = length (dataRows (expanded key) ad) };
+      })
+      (beginning suite key nonce ad)
+  unfolding beginning messageRows checksumOf zeroBlock
+  begun e = simp (eq-eqb _ _ e, append-nil)
+
+module _ (p : Pieces) (piece : List ℕ) where
+  pub take-refused : (takeRefusal p (length piece) ≡ 0 → ⊥)
+      → _≡_ {A = Taking} (record { answer = record { pieces = p; number = takeRefusal p (length piece) }; piece = piece }) (taking p piece)
+  unfolding taking
+  take-refused h = simp (ne-eqb _ _ h)
+
+  pub take-done : takeRefusal p (length piece) ≡ 0
+      → _≡_ {A = Taking} (record { answer = record { pieces = took p piece; number = 0 }; piece = pieceText p piece }) (taking p piece)
+  unfolding taking
+  take-done e = simp (eq-eqb _ _ e)
+
+module _ (p : Pieces) where
+  pub finish-refused : (standing p 1 ≡ 0 → ⊥)
+      → _≡_ {A = Finished} (record { pieces = p; number = standing p 1; tag = zeroBlock; rows = 0 }) (finishing p)
+  unfolding finishing
+  finish-refused h = simp (ne-eqb _ _ h)
+
+  pub finish-done : standing p 1 ≡ 0 → finished p ≡ finishing p
+  unfolding finishing
+  finish-done e = simp (eq-eqb _ _ e)

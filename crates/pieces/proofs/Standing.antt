@@ -1,0 +1,126 @@
+-- What refuses a call, as the code's tests show it; and what holds where nothing does.
+-- Assumes nothing.
+use mathlib.Core.Path.{_≡_, refl, sym, _∙_}
+use mathlib.Core.Bool.{Bool, true, false, false≢true}
+use Prim.Native.Nat.{ℕ, zero, suc, _+_, _≤_, _<_}
+use native.Mathlib.Nat.{suc-ne-zero}
+use lib.Dec.{eqb, ltb}
+use borrow.Author.Tests.{eq-eqb, ne-eqb, lt-ltb, le-ltb, le-leb, lt-leb, leb-true, ltb-false}
+use Rattle.octets.specs.Octets.{pick}
+use Rattle.suites.specs.Suites.{refusal}
+use Rattle.pieces.specs.declared.Pieces.{Pieces}
+use Rattle.pieces.specs.ByPieces.{beginRefusal, standing, takeRefusal}
+
+-- ---- begin
+
+module _ (suite key nonce ad : ℕ) where
+  pub other-suite : 2 < suite → 1 ≡ beginRefusal suite key nonce ad
+  unfolding beginRefusal
+  other-suite h = simp (lt-leb _ _ h)
+
+  pub own-suite : suite ≤ 2 → refusal suite key nonce ad 0 ≡ beginRefusal suite key nonce ad
+  unfolding beginRefusal
+  own-suite h = simp (le-leb _ _ h)
+
+  pub begin-passed : beginRefusal suite key nonce ad ≡ 0 → (suite ≤ 2) × (refusal suite key nonce ad 0 ≡ 0)
+  unfolding beginRefusal
+  begin-passed e = let p = either _ _ e in (leb-true _ _ (p .0), p .1)
+    where
+      either : (b : Bool) (n : ℕ) → pick b n 1 ≡ 0 → (b ≡ true) × (n ≡ 0)
+      either true n e = (refl, e)
+      either false n e = absurd (suc-ne-zero 0 e)
+
+-- ---- every later call
+
+module _ (p : Pieces) (last : ℕ) where
+  pub begin-first : (p .number ≡ 0 → ⊥) → p .number ≡ standing p last
+  unfolding standing
+  begin-first h = simp (ne-eqb _ _ h)
+
+  module _ (h₀ : p .number ≡ 0) where
+    pub past : last < p .stage → 8 ≡ standing p last
+    unfolding standing
+    past h = simp (eq-eqb _ _ h₀, lt-leb _ _ h)
+
+    module _ (h₁ : p .stage ≤ last) where
+      pub many-rounds : 16 < p .keys .rounds → 8 ≡ standing p last
+      unfolding standing
+      many-rounds h = simp (eq-eqb _ _ h₀, le-leb _ _ h₁, lt-leb _ _ h)
+
+      module _ (h₂ : p .keys .rounds ≤ 16) where
+        pub many-bytes : 1048576 < p .total → 8 ≡ standing p last
+        unfolding standing
+        many-bytes h = simp (eq-eqb _ _ h₀, le-leb _ _ h₁, le-leb _ _ h₂, lt-leb _ _ h)
+
+        module _ (h₃ : p .total ≤ 1048576) where
+          pub many-rows : 131072 < p .count .rows → 8 ≡ standing p last
+          unfolding standing
+          many-rows h = simp (eq-eqb _ _ h₀, le-leb _ _ h₁, le-leb _ _ h₂, le-leb _ _ h₃, lt-leb _ _ h)
+
+          pub none : p .count .rows ≤ 131072 → 0 ≡ standing p last
+          unfolding standing
+          none h = simp (eq-eqb _ _ h₀, le-leb _ _ h₁, le-leb _ _ h₂, le-leb _ _ h₃, le-leb _ _ h)
+
+-- what holds where a state refuses nothing up to this stage
+pub record Stands (p : Pieces) (last : ℕ) : Type 0 where
+  pub begun : p .number ≡ 0
+  pub staged : p .stage ≤ last
+  pub few-rounds : p .keys .rounds ≤ 16
+  pub few-bytes : p .total ≤ 1048576
+  pub few-rows : p .count .rows ≤ 131072
+
+first-zero : (x n : ℕ) → pick (eqb x 0) n x ≡ 0 → x ≡ 0
+first-zero zero n e = refl
+first-zero (suc x) n e = absurd (suc-ne-zero x (rw (ne-eqb (suc x) 0 (suc-ne-zero x)) at e))
+
+eight-or-none : (b : Bool) → _≡_ {A = ℕ} (pick b 0 8) 0 → b ≡ true
+eight-or-none true e = refl
+eight-or-none false e = absurd (suc-ne-zero 7 e)
+
+both : (a b : Bool) → pick a b false ≡ true → (a ≡ true) × (b ≡ true)
+both true b e = (refl, e)
+both false b e = absurd (false≢true e)
+
+pub stands : (p : Pieces) (last : ℕ) → standing p last ≡ 0 → Stands p last
+unfolding standing
+stands p last e =
+    let z = first-zero (p .number) _ e in
+    let t₁ = both _ _ (eight-or-none _ (rw (eq-eqb _ _ z) at e)) in
+    let t₂ = both _ _ (t₁ .1) in
+    let t₃ = both _ _ (t₂ .1) in
+    record {
+      begun = z;
+      staged = leb-true _ _ (t₁ .0);
+      few-rounds = leb-true _ _ (t₂ .0);
+      few-bytes = leb-true _ _ (t₃ .0);
+      few-rows = leb-true _ _ (t₃ .1);
+    }
+
+pub standing-none : {p : Pieces} {last : ℕ} → Stands p last → 0 ≡ standing p last
+standing-none {p} {last} g = none p last (g .begun) (g .staged) (g .few-rounds) (g .few-bytes) (g .few-rows)
+
+-- ---- a piece
+
+module _ (p : Pieces) (bytes : ℕ) where
+  pub stands-first : (standing p 0 ≡ 0 → ⊥) → standing p 0 ≡ takeRefusal p bytes
+  unfolding takeRefusal
+  stands-first h = simp (ne-eqb _ _ h)
+
+  module _ (h₀ : standing p 0 ≡ 0) where
+    pub too-long : 1048576 < p .total + bytes → 5 ≡ takeRefusal p bytes
+    unfolding takeRefusal
+    too-long h = simp (eq-eqb _ _ h₀, lt-ltb _ _ h)
+
+    pub taken : p .total + bytes ≤ 1048576 → 0 ≡ takeRefusal p bytes
+    unfolding takeRefusal
+    taken h = simp (eq-eqb _ _ h₀, le-ltb _ _ h)
+
+  pub take-passed : takeRefusal p bytes ≡ 0 → (standing p 0 ≡ 0) × (p .total + bytes ≤ 1048576)
+  unfolding takeRefusal
+  take-passed e =
+      let z = first-zero (standing p 0) _ e in
+      (z, ltb-false _ _ (five-or-none _ (rw (eq-eqb _ _ z) at e)))
+    where
+      five-or-none : (b : Bool) → _≡_ {A = ℕ} (pick b 5 0) 0 → b ≡ false
+      five-or-none true e = absurd (suc-ne-zero 4 e)
+      five-or-none false e = refl
