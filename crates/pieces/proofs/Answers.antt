@@ -1,17 +1,18 @@
 -- The definition's answers, case by case.
 -- Assumes nothing.
 use mathlib.Core.Path.{_≡_}
-use mathlib.Core.List.{List, append-nil}
+use mathlib.Core.List.{List, [], append-nil}
 use Prim.Native.Nat.{ℕ}
 use lib.ListN.{length, replicate}
 use borrow.Author.Tests.{eq-eqb, ne-eqb}
 use Rattle.octets.specs.Octets.{zeroBlock}
 use Rattle.tweakey.specs.Tweakey.{expanded}
+use Rattle.tweakey.specs.declared.Subkeys.{Subkeys}
 use Rattle.modes.specs.Rows.{dataRows, absorbed}
 use Rattle.deoxys_i.specs.DeoxysI.{messageRows, checksumOf}
 use Rattle.pieces.specs.declared.Pieces.{Pieces}
 use Rattle.pieces.specs.declared.Finished.{Finished}
-use Rattle.pieces.specs.ByPieces.{void, beginRefusal, beginning, standing, takeRefusal, Taking, pieceText, took, taking, finished, finishing}
+use Rattle.pieces.specs.ByPieces.{held, void, beginRefusal, beginning, standing, takeRefusal, Taking, pieceText, took, taking, finished, finishing}
 
 module _ (suite : ℕ) (key nonce ad : List ℕ) where
   abbrev number : ℕ
@@ -21,21 +22,25 @@ module _ (suite : ℕ) (key nonce ad : List ℕ) where
   unfolding beginning
   begin-refused h = simp (ne-eqb _ _ h)
 
-  pub begun : number ≡ 0
-      → _≡_ {A = Pieces}
-      (record {
-        number = 0;
-        stage = 0;
-        keys = expanded key;
-        nonce = nonce;
-        auth = absorbed zeroBlock (dataRows (expanded key) ad);
-        checksum = replicate 16 0;
-        total = 0;
-        count = record { rows = length (dataRows (expanded key) ad) };
-      })
-      (beginning suite key nonce ad)
-  unfolding beginning messageRows checksumOf zeroBlock
-  begun e = simp (eq-eqb _ _ e, append-nil)
+  pub begin-done : number ≡ 0 → held (expanded key) nonce ad [] 0 ≡ beginning suite key nonce ad
+  unfolding beginning
+  begin-done e = simp (eq-eqb _ _ e)
+
+pub nothing-taken : (k : Subkeys) (nonce ad : List ℕ)
+    → _≡_ {A = Pieces}
+    (record {
+      number = 0;
+      stage = 0;
+      keys = k;
+      nonce = nonce;
+      auth = absorbed zeroBlock (dataRows k ad);
+      checksum = replicate 16 0;
+      total = 0;
+      count = record { rows = length (dataRows k ad) };
+    })
+    (held k nonce ad [] 0)
+unfolding messageRows checksumOf zeroBlock
+nothing-taken k nonce ad = simp append-nil
 
 module _ (p : Pieces) (piece : List ℕ) where
   pub take-refused : (takeRefusal p (length piece) ≡ 0 → ⊥)

@@ -29,7 +29,7 @@ use Rattle.promises.proofs.Views.{Decided, decided, number, SealView, s
 -- ---- any table
 
 -- what a number is, given in order
-data Verdict (fault : ℕ → Type 0) (number : ℕ) : Type 0 where
+pub data Verdict (fault : ℕ → Type 0) (number : ℕ) : Type 0 where
   none : number ≡ 0 → ((n : ℕ) → fault n → ⊥) → Verdict fault number
   first : 0 < number → First fault number → Verdict fault number
 
@@ -46,7 +46,7 @@ module _ {fault : ℕ → Type 0} where
       by false true p q = absurd (f .none-before n (ltb-true n m q) (g .applies))
       by false false p q = let a = ltb-false m n p in let b = ltb-false n m q in omega arith
 
-  ordered : {number : ℕ} → Verdict fault number → Ordered fault number
+  pub ordered : {number : ℕ} → Verdict fault number → Ordered fault number
   ordered {number} (Verdict.none z c) = record {
     refused = λ n h. (λ e. absurd (omega (arith, z, e, h)), λ f. absurd (c n (f .applies)));
     done = (λ e. c, λ d. z);
@@ -97,7 +97,7 @@ module _ {suite : ℕ} {key nonce ad text : List ℕ} where
   fault-5 : Fault suite key nonce ad text 5 → length text ≤ 1048576 → ⊥
   fault-5 (Fault.long-text h) l = omega arith
 
-  within : {n : ℕ} → Fault suite key nonce ad text n → (1 ≤ n) × (n ≤ 5)
+  pub within : {n : ℕ} → Fault suite key nonce ad text n → (1 ≤ n) × (n ≤ 5)
   within (Fault.no-suite h) = (lit≤ tt, lit≤ tt)
   within (Fault.wrong-key h) = (lit≤ tt, lit≤ tt)
   within (Fault.wrong-nonce h) = (lit≤ tt, lit≤ tt)
@@ -105,7 +105,7 @@ module _ {suite : ℕ} {key nonce ad text : List ℕ} where
   within (Fault.long-text h) = (lit≤ tt, lit≤ tt)
 
 module _ (suite : ℕ) (key nonce ad text : List ℕ) where
-  by-lengths : Verdict (Fault suite key nonce ad text) (number suite key nonce ad text)
+  pub by-lengths : Verdict (Fault suite key nonce ad text) (number suite key nonce ad text)
   unfolding refusal
   by-lengths =
       tested (not (isSuite suite)) 0 _ (record { clear = λ m h f. omega (arith, h, within f .0) })

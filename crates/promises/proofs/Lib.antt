@@ -7,4 +7,6 @@ pub mod Modes
 pub mod Views
 pub mod InOrder
 pub mod FromRows
+pub mod Joined
+pub mod ByPieces
 pub mod Promises

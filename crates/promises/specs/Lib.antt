@@ -1,3 +1,4 @@
 pub mod Statements
 pub mod Refusals
 pub mod MadeOfRows
+pub mod ByPieces

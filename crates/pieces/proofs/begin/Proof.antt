@@ -1,22 +1,14 @@
-use Rattle.suites.proofs.Refusals.{Good, good, key-is, nonce-i}
+-- `pieces::begin` meets its contract: refused, or nothing taken yet.
+-- Assumes nothing.
+use mathlib.Core.Path.{sym, _∙_}
+use native.Mathlib.Omega.{arith}
+use borrow.Author.Needs.{needs}
+use Rattle.suites.proofs.Refusals.{good, key-is, nonce-i}
 use Rattle.tweakey.proofs.Tweakeys.{rounds-small}
 use Rattle.pieces.proofs.Standing.{begin-passed}
-use Rattle.pieces.proofs.Answers.{begin-refused, begun}
-use mathlib.Core.Path.{_≡_, refl, sym, ap, _∙_}
-use mathlib.Core.List.{List, [], _∷_, _++_}
-use Prim.Native.Nat.{ℕ, zero, suc, _+_, _-_, _*_, _/_, _%_, _≤_, _<_}
-use native.Mathlib.Omega.{arith}
-use lib.ListN.{length, take, drop, getD, set}
-use borrow.Author.Needs.{needs}
+use Rattle.pieces.proofs.Answers.{begin-refused, begin-done, nothing-taken}
 use Rattle.pieces.proofs.begin.Statement.{statement}
 use Rattle.pieces.proofs.begin.Tie as tie
-use Rattle.pieces.proofs.begin.Reads as reads
-use Rattle.pieces.proofs.begin.Lts as lts
-use Rattle.modes.proofs.compute_ad_tag.Reads as compute-ad-tag-reads
-use Rattle.pieces.proofs.begin_refusal.Reads as begin-refusal-reads
-use Rattle.pieces.proofs.kept.Reads as kept-reads
-use Rattle.pieces.proofs.void.Reads as void-reads
-use Rattle.tweakey.proofs.precompute_subkeys.Reads as precompute-subkeys-reads
 
 begin-refusal-requires : tie.Need-begin-refusal-requires
 begin-refusal-requires c κs = search needs
@@ -25,19 +17,26 @@ void-requires : tie.Need-void-requires
 void-requires c κs = search needs
 
 returns : tie.Need-returns
-returns c = rw (c .void .ensures, c .before .before .begin-refusal .ensures) (begin-refused _ _ _ _ (λ e. c .before .if1 .taken (c .before .before .begin-refusal .ensures ∙ e)))
+returns c =
+    rw (c .void .ensures, c .before .before .begin-refusal .ensures)
+    (begin-refused _ _ _ _ (λ e. c .before .if1 .taken (c .before .before .begin-refusal .ensures ∙ e)))
 
 precompute-subkeys-requires : tie.Need-precompute-subkeys-requires
-precompute-subkeys-requires c κs = let t = begin-passed _ _ _ _ (sym (c .before .begin-refusal .ensures) ∙ c .if1 .left) in key-is (good _ _ _ _ _ (t .1))
+precompute-subkeys-requires c κs = let t = begin-passed _ _ _ _ (sym (c .before .begin-refusal .ensures) ∙ c .if1 .left) in
+    key-is (good _ _ _ _ _ (t .1))
 
 compute-ad-tag-requires : tie.Need-compute-ad-tag-requires
-compute-ad-tag-requires c κs = let t = begin-passed _ _ _ _ (sym (c .before .before .begin-refusal .ensures) ∙ c .before .if1 .left) in (rw (c .precompute-subkeys .ensures) (rounds-small _), omega (arith, good _ _ _ _ _ (t .1) .ad-fits))
+compute-ad-tag-requires c κs = let t = begin-passed _ _ _ _ (sym (c .before .before .begin-refusal .ensures) ∙ c .before .if1 .left) in
+    (rw (c .precompute-subkeys .ensures) (rounds-small _), omega (arith, good _ _ _ _ _ (t .1) .ad-fits))
 
 kept-requires : tie.Need-kept-requires
-kept-requires c κs = let t = begin-passed _ _ _ _ (sym (c .before .before .before .before .before .begin-refusal .ensures) ∙ c .before .before .before .before .if1 .left) in nonce-i (good _ _ _ _ _ (t .1)) (t .0)
+kept-requires c κs = let t = begin-passed _ _ _ _ (sym (c .before .before .before .before .before .begin-refusal .ensures) ∙ c .before .before .before .before .if1 .left) in
+    nonce-i (good _ _ _ _ _ (t .1)) (t .0)
 
 returns-2 : tie.Need-returns-2
-returns-2 c = rw (c .kept .ensures, c .before .before .before .compute-ad-tag .ensures, c .before .before .before .before .precompute-subkeys .ensures) (begun _ _ _ _ (sym (c .before .before .before .before .before .before .begin-refusal .ensures) ∙ c .before .before .before .before .before .if1 .left))
+returns-2 c =
+    simp (c .kept .ensures, c .before .before .before .compute-ad-tag .ensures, c .before .before .before .before .precompute-subkeys .ensures)
+    (nothing-taken _ _ _ ∙ begin-done _ _ _ _ (sym (c .before .before .before .before .before .before .begin-refusal .ensures) ∙ c .before .before .before .before .before .if1 .left))
 
 pub begin-spec : {M : Type 1} → statement M
 begin-spec =

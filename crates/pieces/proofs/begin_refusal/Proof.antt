@@ -1,15 +1,11 @@
-use Rattle.pieces.proofs.Standing.{other-suite, own-suite}
-use mathlib.Core.Path.{_≡_, refl, sym, ap, _∙_}
-use mathlib.Core.List.{List, [], _∷_, _++_}
-use Prim.Native.Nat.{ℕ, zero, suc, _+_, _-_, _*_, _/_, _%_, _≤_, _<_}
+-- `pieces::begin_refusal` meets its contract: the suites 1 and 2 are tested as for one call with an empty message.
+-- Assumes nothing.
+use mathlib.Core.Path.{_∙_}
 use native.Mathlib.Omega.{arith}
-use lib.ListN.{length, take, drop, getD, set}
 use borrow.Author.Needs.{needs}
+use Rattle.pieces.proofs.Standing.{other-suite, own-suite}
 use Rattle.pieces.proofs.begin_refusal.Statement.{statement}
 use Rattle.pieces.proofs.begin_refusal.Tie as tie
-use Rattle.pieces.proofs.begin_refusal.Reads as reads
-use Rattle.pieces.proofs.begin_refusal.Lts as lts
-use Rattle.suites.proofs.refusal.Reads as refusal-reads
 
 returns : tie.Need-returns
 returns c = other-suite _ _ _ _ (omega arith)

@@ -1,14 +1,12 @@
-use Rattle.octets.proofs.Tables.{Filled, filled-none, filled-more, filled-all, spelt}
-use mathlib.Core.Path.{_≡_, refl, sym, ap, _∙_}
-use mathlib.Core.List.{List, [], _∷_, _++_}
-use Prim.Native.Nat.{ℕ, zero, suc, _+_, _-_, _*_, _/_, _%_, _≤_, _<_}
-use native.Mathlib.Omega.{arith}
+-- `pieces::kept` meets its contract: the loop fills the array with what stands in the slice.
+-- Assumes nothing.
+use mathlib.Core.Path.{refl, _∙_}
+use Prim.Native.Nat.{_-_}
+use lib.ListN.{getD}
 use borrow.Author.Needs.{needs}
-use lib.ListN.{length, take, drop, getD, set}
+use Rattle.octets.proofs.Tables.{Filled, filled-none, filled-more, filled-all, spelt}
 use Rattle.pieces.proofs.kept.Statement.{statement}
 use Rattle.pieces.proofs.kept.Tie as tie
-use Rattle.pieces.proofs.kept.Reads as reads
-use Rattle.pieces.proofs.kept.Lts as lts
 
 abbrev Inv-loop : tie.InvT-loop
 Inv-loop nonce out₀ i₀ out i = Filled (λ k. getD nonce k 0) 8 out i

@@ -1,14 +1,8 @@
+-- `pieces::stage_after` meets its contract.
+-- Assumes nothing.
 use borrow.Author.Tests.{eq-eqb, ne-eqb}
-use mathlib.Core.Path.{_≡_, refl, sym, ap, _∙_}
-use mathlib.Core.List.{List, [], _∷_, _++_}
-use Prim.Native.Nat.{ℕ, zero, suc, _+_, _-_, _*_, _/_, _%_, _≤_, _<_}
-use native.Mathlib.Omega.{arith}
-use borrow.Author.Needs.{needs}
-use lib.ListN.{length, take, drop, getD, set}
 use Rattle.pieces.proofs.stage_after.Statement.{statement}
 use Rattle.pieces.proofs.stage_after.Tie as tie
-use Rattle.pieces.proofs.stage_after.Reads as reads
-use Rattle.pieces.proofs.stage_after.Lts as lts
 
 returns : tie.Need-returns
 returns c = simp (eq-eqb _ _ (c .if1 .taken))

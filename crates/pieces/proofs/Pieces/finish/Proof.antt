@@ -1,19 +1,14 @@
+-- `pieces::Pieces::finish` meets its contract: refused, or done.
+-- Assumes nothing.
+use mathlib.Core.Path.{sym, _∙_}
+use native.Mathlib.Omega.{arith}
+use borrow.Author.Needs.{needs}
 use Rattle.octets.specs.Octets.{zeroBlock}
 use Rattle.pieces.specs.ByPieces.{finished}
-use Rattle.pieces.proofs.Standing.{Stands, stands}
+use Rattle.pieces.proofs.Standing.{stands}
 use Rattle.pieces.proofs.Answers.{finish-refused, finish-done}
-use mathlib.Core.Path.{_≡_, refl, sym, ap, _∙_}
-use mathlib.Core.List.{List, [], _∷_, _++_}
-use Prim.Native.Nat.{ℕ, zero, suc, _+_, _-_, _*_, _/_, _%_, _≤_, _<_}
-use native.Mathlib.Omega.{arith}
-use lib.ListN.{length, take, drop, getD, set}
-use borrow.Author.Needs.{needs}
 use Rattle.pieces.proofs.Pieces.finish.Statement.{statement}
 use Rattle.pieces.proofs.Pieces.finish.Tie as tie
-use Rattle.pieces.proofs.Pieces.finish.Reads as reads
-use Rattle.pieces.proofs.Pieces.finish.Lts as lts
-use Rattle.deoxys_i.proofs.tag.Reads as tag-reads
-use Rattle.pieces.proofs.Pieces.standing.Reads as standing-reads
 
 standing-requires : tie.Need-standing-requires
 standing-requires c κs = search needs
@@ -26,11 +21,14 @@ slice-aggregate-tag : tie.Need-slice-aggregate-tag
 slice-aggregate-tag c = search needs
 
 tag-requires : tie.Need-tag-requires
-tag-requires c κs = let g = stands _ _ (sym (c .before .before .before .before .before .standing .ensures) ∙ c .before .before .before .before .if1 .left) in (g .few-rounds, search needs, omega (arith, g .few-bytes), omega (arith, g .few-rows))
+tag-requires c κs = let g = stands _ _ (sym (c .before .before .before .before .before .standing .ensures) ∙ c .before .before .before .before .if1 .left) in
+    (g .few-rounds, search needs, omega (arith, g .few-bytes), omega (arith, g .few-rows))
 
 returns-2 : tie.Need-returns-2
 unfolding finished
-returns-2 c = rw (c .before .before .tag .ensures) (finish-done _ (sym (c .before .before .before .before .before .before .before .before .standing .ensures) ∙ c .before .before .before .before .before .before .before .if1 .left))
+returns-2 c =
+    simp (c .before .before .tag .ensures)
+    (finish-done _ (sym (c .before .before .before .before .before .before .before .before .standing .ensures) ∙ c .before .before .before .before .before .before .before .if1 .left))
 
 pub finish-spec : {M : Type 1} → statement M
 finish-spec =

@@ -1,14 +1,9 @@
-use Rattle.pieces.proofs.Standing.{begin-first, past, many-rounds, many-bytes, many-rows, none}
-use mathlib.Core.Path.{_≡_, refl, sym, ap, _∙_}
-use mathlib.Core.List.{List, [], _∷_, _++_}
-use Prim.Native.Nat.{ℕ, zero, suc, _+_, _-_, _*_, _/_, _%_, _≤_, _<_}
+-- `pieces::Pieces::standing` meets its contract: a law for each test.
+-- Assumes nothing.
 use native.Mathlib.Omega.{arith}
-use borrow.Author.Needs.{needs}
-use lib.ListN.{length, take, drop, getD, set}
+use Rattle.pieces.proofs.Standing.{begin-first, past, many-rounds, many-bytes, many-rows, none}
 use Rattle.pieces.proofs.Pieces.standing.Statement.{statement}
 use Rattle.pieces.proofs.Pieces.standing.Tie as tie
-use Rattle.pieces.proofs.Pieces.standing.Reads as reads
-use Rattle.pieces.proofs.Pieces.standing.Lts as lts
 
 returns : tie.Need-returns
 returns c = begin-first _ _ (c .if1 .taken)

@@ -1,16 +1,10 @@
-use Rattle.pieces.proofs.Answers.{take-refused, take-done}
-use mathlib.Core.Path.{_≡_, refl, sym, ap, _∙_}
-use mathlib.Core.List.{List, [], _∷_, _++_}
-use Prim.Native.Nat.{ℕ, zero, suc, _+_, _-_, _*_, _/_, _%_, _≤_, _<_}
-use native.Mathlib.Omega.{arith}
-use lib.ListN.{length, take, drop, getD, set}
+-- `pieces::Pieces::take` meets its contract: refused, or done.
+-- Assumes nothing.
+use mathlib.Core.Path.{sym, _∙_}
 use borrow.Author.Needs.{needs}
+use Rattle.pieces.proofs.Answers.{take-refused, take-done}
 use Rattle.pieces.proofs.Pieces.take.Statement.{statement}
 use Rattle.pieces.proofs.Pieces.take.Tie as tie
-use Rattle.pieces.proofs.Pieces.take.Reads as reads
-use Rattle.pieces.proofs.Pieces.take.Lts as lts
-use Rattle.pieces.proofs.Pieces.take_refusal.Reads as take-refusal-reads
-use Rattle.pieces.proofs.Pieces.took.Reads as took-reads
 
 take-refusal-requires : tie.Need-take-refusal-requires
 take-refusal-requires c κs = search needs
@@ -25,7 +19,9 @@ same-length : tie.Need-same-length
 same-length c = search needs
 
 returns-2 : tie.Need-returns-2
-returns-2 c = rw (c .before .before .took .ensures .0, c .before .before .took .ensures .1) (take-done _ _ (sym (c .before .before .before .before .before .take-refusal .ensures) ∙ c .before .before .before .before .if1 .left))
+returns-2 c =
+    simp (c .before .before .took .ensures .0, c .before .before .took .ensures .1)
+    (take-done _ _ (sym (c .before .before .before .before .before .take-refusal .ensures) ∙ c .before .before .before .before .if1 .left))
 
 pub take-spec : {M : Type 1} → statement M
 take-spec = tie.close (tie.spec take-refusal-requires returns took-requires same-length returns-2)

@@ -1,15 +1,11 @@
-use Rattle.pieces.proofs.Standing.{stands-first, too-long, taken}
-use mathlib.Core.Path.{_≡_, refl, sym, ap, _∙_}
-use mathlib.Core.List.{List, [], _∷_, _++_}
-use Prim.Native.Nat.{ℕ, zero, suc, _+_, _-_, _*_, _/_, _%_, _≤_, _<_}
+-- `pieces::Pieces::take_refusal` meets its contract: what the state refuses comes first; the sum of the bytes is never made.
+-- Assumes nothing.
+use mathlib.Core.Path.{sym, _∙_}
 use native.Mathlib.Omega.{arith}
-use lib.ListN.{length, take, drop, getD, set}
 use borrow.Author.Needs.{needs}
+use Rattle.pieces.proofs.Standing.{stands-first, too-long, taken}
 use Rattle.pieces.proofs.Pieces.take_refusal.Statement.{statement}
 use Rattle.pieces.proofs.Pieces.take_refusal.Tie as tie
-use Rattle.pieces.proofs.Pieces.take_refusal.Reads as reads
-use Rattle.pieces.proofs.Pieces.take_refusal.Lts as lts
-use Rattle.pieces.proofs.Pieces.standing.Reads as standing-reads
 
 standing-requires : tie.Need-standing-requires
 standing-requires c κs = search needs

@@ -1,18 +1,12 @@
-use Rattle.pieces.specs.ByPieces.{took}
-use Rattle.pieces.proofs.Standing.{Stands, stands, take-passed}
-use mathlib.Core.Path.{_≡_, refl, sym, ap, _∙_}
-use mathlib.Core.List.{List, [], _∷_, _++_}
-use Prim.Native.Nat.{ℕ, zero, suc, _+_, _-_, _*_, _/_, _%_, _≤_, _<_}
+-- `pieces::Pieces::took` meets its contract: what refuses nothing keeps every sum small (`stands`, `take-passed`).
+-- Assumes nothing.
+use mathlib.Core.Path.{refl}
 use native.Mathlib.Omega.{arith}
-use lib.ListN.{length, take, drop, getD, set}
 use borrow.Author.Needs.{needs}
+use Rattle.pieces.specs.ByPieces.{took}
+use Rattle.pieces.proofs.Standing.{stands, take-passed}
 use Rattle.pieces.proofs.Pieces.took.Statement.{statement}
 use Rattle.pieces.proofs.Pieces.took.Tie as tie
-use Rattle.pieces.proofs.Pieces.took.Reads as reads
-use Rattle.pieces.proofs.Pieces.took.Lts as lts
-use Rattle.deoxys_i.proofs.checksum.Reads as checksum-reads
-use Rattle.deoxys_i.proofs.crypt_message.Reads as crypt-message-reads
-use Rattle.pieces.proofs.stage_after.Reads as stage-after-reads
 
 checksum-requires : tie.Need-checksum-requires
 checksum-requires c κs = search needs
@@ -21,10 +15,13 @@ slice-aggregate-crypt-message : tie.Need-slice-aggregate-crypt-message
 slice-aggregate-crypt-message c = search needs
 
 crypt-message-requires : tie.Need-crypt-message-requires
-crypt-message-requires c κs = let t = take-passed _ _ (c .before .before .before .before .before .before .before .before .pre) in let g = stands _ _ (t .0) in (g .few-rounds, search needs, omega (arith, g .few-bytes, t .1), omega (arith, g .few-rows, t .1))
+crypt-message-requires c κs = let t = take-passed _ _ (c .before .before .before .before .before .before .before .before .pre) in
+    let g = stands _ _ (t .0) in
+    (g .few-rounds, search needs, omega (arith, g .few-bytes, t .1), omega (arith, g .few-rows, t .1))
 
 add-self : tie.Need-add-self
-add-self c = let t = take-passed _ _ (c .before .before .before .before .before .before .before .before .before .before .before .before .pre) in omega (arith, t .1)
+add-self c = let t = take-passed _ _ (c .before .before .before .before .before .before .before .before .before .before .before .before .pre) in
+    omega (arith, t .1)
 
 stage-after-requires : tie.Need-stage-after-requires
 stage-after-requires c κs = search needs
@@ -34,7 +31,14 @@ same-length c = search needs
 
 returns : tie.Need-returns
 unfolding took
-returns c = rw (c .stage-after .ensures, c .before .before .before .before .crypt-message .ensures .1, c .before .before .before .before .crypt-message .ensures .0, c .before .before .before .before .before .before .before .before .before .checksum .ensures) (refl, refl)
+returns c =
+    simp (
+      c .stage-after .ensures,
+      c .before .before .before .before .crypt-message .ensures .1,
+      c .before .before .before .before .crypt-message .ensures .0,
+      c .before .before .before .before .before .before .before .before .before .checksum .ensures,
+    )
+    (refl, refl)
 
 pub took-spec : {M : Type 1} → statement M
 took-spec =
