@@ -76,9 +76,10 @@ module _ (call : List ℕ → List ℕ → Row) (k : Subkeys) (nonce : List ℕ)
           )
 
       pub crypt-part : 16 * n < length s
-          → (m + 1 ≡ count) × (take (16 * n) s ++ (drop (16 * n) s ⊕ encipher k (nonceTweak 4 nonce (first + n)) zeroBlock) ≡ out)
+          → (m + 1 ≡ count)
+          × ((number : ℕ) → number ≡ first + n → take (16 * n) s ++ (drop (16 * n) s ⊕ encipher k (nonceTweak 4 nonce number) zeroBlock) ≡ out)
       unfolding messageRows textOf
       crypt-part h =
           let z : n - n ≡ 0 = omega arith in
           let r = partial-some (λ p. enciphered k (nonceTweak 4 nonce (first + n)) zeroBlock) (drop (16 * n) s) (simp length-drop (omega arith)) in
-          (rw (e, z, r) at (g .counts), rw (e, z, r) at (g .outs))
+          (rw (e, z, r) at (g .counts), λ number x. rw x (rw (e, z, r) at (g .outs)))

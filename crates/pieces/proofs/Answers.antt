@@ -2,14 +2,15 @@
 -- Assumes nothing.
 use mathlib.Core.Path.{_≡_}
 use mathlib.Core.List.{List, [], append-nil}
-use Prim.Native.Nat.{ℕ}
+use Prim.Native.Nat.{ℕ, _+_, _/_, _%_}
+use lib.Dec.{eqb}
 use lib.ListN.{length, replicate}
 use borrow.Author.Tests.{eq-eqb, ne-eqb}
-use Rattle.octets.specs.Octets.{zeroBlock}
+use Rattle.octets.specs.Octets.{pick, zeroBlock}
 use Rattle.tweakey.specs.Tweakey.{expanded}
 use Rattle.tweakey.specs.declared.Subkeys.{Subkeys}
-use Rattle.modes.specs.Rows.{dataRows, absorbed}
-use Rattle.deoxys_i.specs.DeoxysI.{messageRows, checksumOf}
+use Rattle.modes.specs.Rows.{enciphered, dataRows, absorbed}
+use Rattle.deoxys_i.specs.DeoxysI.{messageRows, checksumOf, summed, rowsFrom, textFrom}
 use Rattle.pieces.specs.declared.Pieces.{Pieces}
 use Rattle.pieces.specs.declared.Finished.{Finished}
 use Rattle.pieces.specs.ByPieces.{held, void, beginRefusal, beginning, standing, takeRefusal, Taking, pieceText, took, taking, finished, finishing}
@@ -43,6 +44,27 @@ unfolding messageRows checksumOf zeroBlock
 nothing-taken k nonce ad = simp append-nil
 
 module _ (p : Pieces) (piece : List ℕ) where
+  -- with the number of the first block and the total as the code has them
+  pub took-is : (first total : ℕ) → first ≡ p .total / 16 → total ≡ p .total + length piece
+      → _≡_ {A = Pieces}
+      (record {
+        number = p .number;
+        stage = pick (eqb (length piece % 16) 0) 0 1;
+        keys = p .keys;
+        nonce = p .nonce;
+        auth = p .auth;
+        checksum = summed (p .checksum) piece;
+        total = total;
+        count = record { rows = p .count .rows + length (rowsFrom first (enciphered (p .keys)) (p .keys) (p .nonce) piece) };
+      })
+      (took p piece)
+  unfolding took
+  took-is first total e h = rw (e, h)
+
+  pub text-is : (first : ℕ) → first ≡ p .total / 16
+      → textFrom first (enciphered (p .keys)) (p .keys) (p .nonce) piece ≡ pieceText p piece
+  text-is first e = rw e
+
   pub take-refused : (takeRefusal p (length piece) ≡ 0 → ⊥)
       → _≡_ {A = Taking} (record { answer = record { pieces = p; number = takeRefusal p (length piece) }; piece = piece }) (taking p piece)
   unfolding taking

@@ -2,8 +2,9 @@
 -- Assumes nothing.
 use mathlib.Core.Path.{_≡_, refl, sym, _∙_}
 use mathlib.Core.Bool.{Bool, true, false, false≢true}
-use Prim.Native.Nat.{ℕ, zero, suc, _+_, _≤_, _<_}
+use Prim.Native.Nat.{ℕ, zero, suc, _+_, _%_, _≤_, _<_}
 use native.Mathlib.Nat.{suc-ne-zero}
+use native.Mathlib.Omega.{arith}
 use lib.Dec.{eqb, ltb}
 use borrow.Author.Tests.{eq-eqb, ne-eqb, lt-ltb, le-ltb, le-leb, lt-leb, leb-true, ltb-false}
 use Rattle.octets.specs.Octets.{pick}
@@ -101,6 +102,18 @@ standing-none {p} {last} g = none p last (g .begun) (g .staged) (g .few-rounds) 
 
 -- ---- a piece
 
+pub stays-open : (bytes : ℕ) → bytes % 16 ≡ 0 → _≡_ {A = ℕ} 0 (pick (eqb (bytes % 16) 0) 0 1)
+stays-open bytes e = simp (eq-eqb _ _ e)
+
+pub closes : (bytes : ℕ) → 0 < bytes % 16 → _≡_ {A = ℕ} 1 (pick (eqb (bytes % 16) 0) 0 1)
+closes bytes h = simp (ne-eqb (bytes % 16) 0 (λ e. omega (arith, e, h)))
+
+pub over : (total bytes : ℕ) → 1048576 < total + bytes → _≡_ {A = ℕ} 5 (pick (ltb 1048576 (total + bytes)) 5 0)
+over total bytes h = simp (lt-ltb _ _ h)
+
+pub not-over : (total bytes : ℕ) → total + bytes ≤ 1048576 → _≡_ {A = ℕ} 0 (pick (ltb 1048576 (total + bytes)) 5 0)
+not-over total bytes h = simp (le-ltb _ _ h)
+
 module _ (p : Pieces) (bytes : ℕ) where
   pub stands-first : (standing p 0 ≡ 0 → ⊥) → standing p 0 ≡ takeRefusal p bytes
   unfolding takeRefusal
@@ -109,11 +122,11 @@ module _ (p : Pieces) (bytes : ℕ) where
   module _ (h₀ : standing p 0 ≡ 0) where
     pub too-long : 1048576 < p .total + bytes → 5 ≡ takeRefusal p bytes
     unfolding takeRefusal
-    too-long h = simp (eq-eqb _ _ h₀, lt-ltb _ _ h)
+    too-long h = rw (eq-eqb _ _ h₀) (over (p .total) bytes h)
 
     pub taken : p .total + bytes ≤ 1048576 → 0 ≡ takeRefusal p bytes
     unfolding takeRefusal
-    taken h = simp (eq-eqb _ _ h₀, le-ltb _ _ h)
+    taken h = rw (eq-eqb _ _ h₀) (not-over (p .total) bytes h)
 
   pub take-passed : takeRefusal p bytes ≡ 0 → (standing p 0 ≡ 0) × (p .total + bytes ≤ 1048576)
   unfolding takeRefusal

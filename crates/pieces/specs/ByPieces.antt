@@ -104,7 +104,11 @@ taking p piece =
 
 -- ---- finish
 
--- the tag's row is the last, and all rows are counted
+-- the tag's row is the last
+abbrev pub finishRow : Pieces → Row
+finishRow p = sumRow (p .keys) (p .nonce) (p .total) (p .checksum)
+
+-- all rows are counted
 unfoldable pub finished : Pieces → Finished
 finished p = record {
   pieces = record {
@@ -118,7 +122,7 @@ finished p = record {
     count = record { rows = p .count .rows + 1 };
   };
   number = 0;
-  tag = p .auth ⊕ sumRow (p .keys) (p .nonce) (p .total) (p .checksum) .to;
+  tag = p .auth ⊕ finishRow p .to;
   rows = p .count .rows + 1;
 }
 

@@ -1,9 +1,10 @@
 // Sealing Deoxys-I by pieces, each in place: the running state is a value, and every operation hands it back.
 ghost use mathlib.Core.Path.{_≡_};
-ghost use Prim.Native.Nat.{_%_};
-ghost use lib.Dec.{eqb};
+ghost use Prim.Native.Nat.{_+_, _%_};
+ghost use lib.Dec.{eqb, ltb};
 ghost use lib.ListN.{length};
 ghost use Rattle.octets.specs.Octets.{pick};
+ghost use Rattle.suites.specs.Suites.{limit};
 ghost use Rattle.pieces.specs.ByPieces.{void, beginRefusal, standing, takeRefusal, took, pieceText, BeginAllows, TakeAllows, FinishAllows};
 use deoxys_bc::Count;
 use tweakey::Subkeys;
@@ -131,6 +132,29 @@ fn stage_after(bytes: usize) -> u8
     CLOSED
 }
 
+// 5 where the total would be above the limit. No sum that could wrap: what is left under the limit is compared.
+fn length_refusal(total: usize, bytes: usize) -> u8
+    ensures { λ r. ⌜ r ≡ pick (ltb limit (total + bytes)) 5 0 ⌝ }
+{
+    if LIMIT < bytes {
+        return TOO_LONG;
+    }
+    if LIMIT - bytes < total {
+        return TOO_LONG;
+    }
+    0
+}
+
+// The first of two numbers that refuses.
+fn first(number: u8, next: u8) -> u8
+    ensures { λ r. ⌜ r ≡ pick (eqb number 0) next number ⌝ }
+{
+    if number != 0 {
+        return number;
+    }
+    next
+}
+
 impl Pieces {
     // Begin's number, or 8 past this stage. The last three tests are of states that no call gave: C can make any.
     fn standing(self, last: u8) -> u8
@@ -154,21 +178,13 @@ impl Pieces {
         0
     }
 
-    // No sum that could wrap: what is left under the limit is compared.
+    // What the state refuses comes before the length.
     fn take_refusal(self, bytes: usize) -> u8
         ensures { λ r. ⌜ r ≡ takeRefusal self bytes ⌝ }
     {
-        let number = self.standing(OPEN);
-        if number != 0 {
-            return number;
-        }
-        if LIMIT < bytes {
-            return TOO_LONG;
-        }
-        if LIMIT - bytes < self.total {
-            return TOO_LONG;
-        }
-        0
+        let stands = self.standing(OPEN);
+        let fits = length_refusal(self.total, bytes);
+        first(stands, fits)
     }
 
     // A piece that nothing refuses. The checksum is of the message, so it comes before the enciphering.
@@ -191,7 +207,7 @@ impl Pieces {
     }
 
     // Enciphers a piece in place, or refuses and leaves it and the state as they stood.
-    pub fn take(self, piece: &mut [u8]) -> Taken
+    pub fn take(mut self, piece: &mut [u8]) -> Taken
         ensures { λ r. ⌜ TakeAllows self (now (piece .entry)) (record { answer = r; piece = now (piece .exit) }) ⌝ }
     {
         let number = self.take_refusal(piece.len());
@@ -201,8 +217,11 @@ impl Pieces {
                 number,
             };
         }
-        let pieces = self.took(piece);
-        Taken { pieces, number: 0 }
+        self = self.took(piece);
+        Taken {
+            pieces: self,
+            number: 0,
+        }
     }
 
     // The tag of all that was taken, and every row counted; or refused.

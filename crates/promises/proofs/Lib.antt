@@ -8,5 +8,8 @@ pub mod Views
 pub mod InOrder
 pub mod FromRows
 pub mod Joined
+pub mod PieceViews
+pub mod Running
 pub mod ByPieces
+pub mod ByPiecesInOrder
 pub mod Promises

@@ -8,10 +8,11 @@ use lib.Dec.{eqb}
 use lib.ListN.{length}
 use Rattle.octets.specs.Octets.{pick, zeroBlock}
 use Rattle.tweakey.specs.Tweakey.{expanded}
-use Rattle.deoxys.specs.Entry.{Sealing, sealing}
+use Rattle.modes.specs.Rows.{Row, dataRows}
+use Rattle.deoxys.specs.Entry.{Sealing, sealed, sealing}
 use Rattle.pieces.specs.declared.Pieces.{Pieces}
 use Rattle.pieces.specs.declared.Finished.{Finished}
-use Rattle.pieces.specs.ByPieces.{held, void, Taking, BeginAllows, TakeAllows, FinishAllows}
+use Rattle.pieces.specs.ByPieces.{held, void, Taking, pieceRows, finishRow, BeginAllows, TakeAllows, FinishAllows}
 use Rattle.promises.specs.Refusals.{Fault, Ordered}
 
 -- ---- pieces one after another
@@ -43,6 +44,13 @@ takenGiven (s ∷ steps) = pick (eqb (s .outcome .answer .number) 0) (s .piece +
 abbrev pub takenLeft : List Step → List ℕ
 takenLeft [] = []
 takenLeft (s ∷ steps) = pick (eqb (s .outcome .answer .number) 0) (s .outcome .piece ++ takenLeft steps) (takenLeft steps)
+
+-- the block cipher calls that these made, each piece's from the state that took it
+abbrev pub takenRows : Pieces → List Step → List Row
+takenRows p [] = []
+takenRows p (s ∷ steps) =
+    pick (eqb (s .outcome .answer .number) 0) (pieceRows p (s .piece) ++ takenRows (s .outcome .answer .pieces) steps)
+    (takenRows (s .outcome .answer .pieces) steps)
 
 -- an allowed cutting: each piece but the last is of whole blocks, none too; and the total is not above the limit
 abbrev pub WholeButLast : List Step → Type 0
@@ -81,6 +89,12 @@ abbrev pub Refused-pieces-leave-no-trace : Type 0
 Refused-pieces-leave-no-trace = (suite : ℕ) (key nonce ad : List ℕ) (begun p : Pieces) (steps : List Step) (f : Finished)
     → suite ≤ 2 → BeginAllows suite key nonce ad begun → Leads begun steps p → FinishAllows p f
     → OneCall (sealing suite key nonce ad (takenGiven steps)) (takenLeft steps) f
+
+-- And the block cipher calls, the data's, the pieces' and the tag's, are those of the single call, one by one and in its order.
+abbrev pub Pieces-make-the-same-calls : Type 0
+Pieces-make-the-same-calls = (suite : ℕ) (key nonce ad : List ℕ) (begun p : Pieces) (steps : List Step)
+    → BeginAllows suite key nonce ad begun → begun .number ≡ 0 → Leads begun steps p
+    → dataRows (expanded key) ad ++ (takenRows begun steps ++ (finishRow p ∷ [])) ≡ sealed suite key nonce ad (takenGiven steps) .rows
 
 -- ---- the numbers in their order, and what each leaves
 

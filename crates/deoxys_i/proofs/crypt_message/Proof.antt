@@ -86,7 +86,7 @@ returns c = let l = c .before .before .before .before .before .before .before .b
       c .before .before .before .before .before .before .before .nonce-tweak .ensures,
       rest-is,
     )
-    (counted (t .0), t .1)
+    (counted (t .0), t .1 _ (omega arith))
 
 same-length-2 : tie.Need-same-length-2 Inv-loop μ-loop
 same-length-2 c = search needs

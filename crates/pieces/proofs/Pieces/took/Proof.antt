@@ -1,10 +1,9 @@
 -- `pieces::Pieces::took` meets its contract: what refuses nothing keeps every sum small (`stands`, `take-passed`).
 -- Assumes nothing.
-use mathlib.Core.Path.{refl}
 use native.Mathlib.Omega.{arith}
 use borrow.Author.Needs.{needs}
-use Rattle.pieces.specs.ByPieces.{took}
 use Rattle.pieces.proofs.Standing.{stands, take-passed}
+use Rattle.pieces.proofs.Answers.{took-is, text-is}
 use Rattle.pieces.proofs.Pieces.took.Statement.{statement}
 use Rattle.pieces.proofs.Pieces.took.Tie as tie
 
@@ -30,15 +29,14 @@ same-length : tie.Need-same-length
 same-length c = search needs
 
 returns : tie.Need-returns
-unfolding took
-returns c =
+returns c = let a = c .before .before .before .before .before .before .before .before .before .before .before .before .before .args in
     simp (
       c .stage-after .ensures,
       c .before .before .before .before .crypt-message .ensures .1,
       c .before .before .before .before .crypt-message .ensures .0,
       c .before .before .before .before .before .before .before .before .before .checksum .ensures,
     )
-    (refl, refl)
+    (took-is (a .self) (a .piece .now) _ _ (omega arith) (omega arith), text-is (a .self) (a .piece .now) _ (omega arith))
 
 pub took-spec : {M : Type 1} → statement M
 took-spec =
