@@ -1,5 +1,5 @@
--- Sealing Deoxys-I by pieces: document 02, request a. It has no rule of the cipher of its own: what a piece becomes, its rows, the checksum and
--- the tag's row are those of crates/deoxys_i/specs/DeoxysI, and the state holds what these give for what has been taken so far.
+-- Sealing Deoxys-I by pieces: document 02, request a. It has no rule of the cipher of its own: what a piece becomes, its rows, the checksum
+-- and the tag's row are those of crates/deoxys_i/specs/DeoxysI, and the state holds what these come to for what has been taken so far.
 -- Assumes nothing.
 use mathlib.Core.Path.{_≡_}
 use mathlib.Core.Bool.{Bool, false}
@@ -19,8 +19,8 @@ use Rattle.pieces.specs.declared.Finished.{Finished}
 
 -- ---- begin
 
--- the state when so much of a message has been taken. Its stage: 0 takes pieces; 1 was closed by a piece that is no multiple of 16 bytes; 2 is
--- finished, as is every greater number
+-- the state when this much of a message has been taken. Its stage: 0 takes pieces, 1 was closed by a piece that is no multiple of 16 bytes,
+-- 2 is finished, as is every greater number
 abbrev pub held : Subkeys → List ℕ → List ℕ → List ℕ → ℕ → Pieces
 held k nonce ad message stage = record {
   number = 0;
@@ -57,11 +57,11 @@ beginning suite key nonce ad =
 
 -- ---- what refuses a piece and the finish
 
--- a state that a call gave: no more rounds than an expanded key has, bytes than the limit, and rows than so many of message and of data make
+-- what every state is that calls gave: no more rounds than an expanded key has, bytes than the limit, rows than so many of data and message make
 abbrev pub sound : Pieces → Bool
 sound p = pick (leb (p .keys .rounds) 16) (pick (leb (p .total) limit) (leb (p .count .rows) 131072) false) false
 
--- begin's number first of all; then 8 where the state is past this stage, or is none that a call gave; or 0
+-- begin's number first of all; then 8 where the state is past this stage, or can be none that calls gave; or 0
 unfoldable pub standing : Pieces → ℕ → ℕ
 standing p last = pick (eqb (p .number) 0) (pick (pick (leb (p .stage) last) (sound p) false) 0 8) (p .number)
 

@@ -5,8 +5,10 @@ ghost use lib.Dec.{eqb, ltb};
 ghost use lib.ListN.{length};
 ghost use Rattle.octets.specs.Octets.{pick};
 ghost use Rattle.suites.specs.Suites.{limit};
-ghost use Rattle.pieces.specs.ByPieces.{void, beginRefusal, standing, takeRefusal, took, pieceText, BeginAllows, TakeAllows, FinishAllows};
+ghost use Rattle.pieces.specs.ByPieces.{void, beginRefusal, standing, takeRefusal, took, pieceText};
+ghost use Rattle.pieces.specs.ByPieces.{BeginAllows, TakeAllows, FinishAllows};
 use deoxys_bc::Count;
+use suites::LIMIT;
 use tweakey::Subkeys;
 
 // The stages. Whatever is above FINISHED is finished too.
@@ -20,15 +22,13 @@ const TOO_LONG: u8 = 5;
 
 const NO_MORE: u8 = 8;
 
-const LIMIT: usize = 1048576;
-
-// The rows of so many bytes of data, and of message.
+// The rows of so many bytes of data and of message as are allowed.
 const MOST_ROWS: usize = 131072;
 
 const MOST_ROUNDS: usize = 16;
 
-// What has been taken so far comes to: begin's number, the stage, the expanded key, the nonce, Auth, the checksum, the bytes taken, and the block
-// cipher calls made. It holds key material.
+// What has been taken so far comes to: begin's number, the stage, the expanded key, the nonce, Auth, the checksum, the bytes taken and the
+// block cipher calls made. It holds key material.
 #[repr(C)]
 pub struct Pieces {
     pub number: u8,

@@ -2,7 +2,8 @@
 ghost use mathlib.Core.Path.{_≡_};
 ghost use Rattle.suites.specs.Suites.{keyLength, nonceLength, refusal};
 
-const LIMIT: usize = 1048576;
+// The most bytes of data, and of a text.
+pub const LIMIT: usize = 1048576;
 
 // The length of a suite's key, and 0 for what is no suite.
 pub fn key_length(suite: u8) -> usize
