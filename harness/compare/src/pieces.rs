@@ -22,14 +22,17 @@ pub fn check(case: &Case, report: &mut Report) {
 }
 
 /// The lengths of pieces that make up so many bytes: whole blocks, none at all too, and a last part. One
-/// cutting has pieces of a block at most, another longer ones, up to the whole.
+/// cutting has pieces of a block at most, another longer ones, up to the whole. In every other all are
+/// alike.
 fn cutting(length: usize, generator: &mut Generator) -> Vec<usize> {
     let powers = length.div_ceil(16).next_power_of_two().ilog2() + 1;
     let most_blocks = 1 << generator.below(powers as usize);
+    let are_alike = generator.below(2) == 0;
     let mut pieces = Vec::new();
     let mut left = length;
     while left > 0 {
-        let piece = left.min(16 * generator.below(most_blocks + 1));
+        let blocks = if are_alike { most_blocks } else { generator.below(most_blocks + 1) };
+        let piece = left.min(16 * blocks);
         pieces.push(piece);
         left -= piece;
     }
@@ -149,7 +152,7 @@ mod tests {
 
     fn cuttings(length: usize) -> Vec<Vec<usize>> {
         let mut generator = Generator::new(length as u64);
-        (0..100).map(|_| cutting(length, &mut generator)).collect()
+        (0..1000).map(|_| cutting(length, &mut generator)).collect()
     }
 
     #[test]
