@@ -1,6 +1,6 @@
 /* Calls the archive from C through include/calibration.h: seals, opens, opens a
- * forgery, and is refused, with NULL for empty byte strings too. Exit status 1
- * if anything isn't as the header says. */
+ * forgery, seals by pieces, and is refused, with NULL for empty byte strings
+ * too. Exit status 1 if anything isn't as the header says. */
 #include "calibration.h"
 
 #include <stdio.h>
@@ -11,6 +11,22 @@ _Static_assert(offsetof(struct deoxys_sealed, rows) == 24, "layout");
 _Static_assert(sizeof(struct deoxys_sealed) == 32, "layout");
 _Static_assert(offsetof(struct deoxys_opened, rows) == 8, "layout");
 _Static_assert(sizeof(struct deoxys_opened) == 16, "layout");
+_Static_assert(offsetof(struct deoxys_subkeys, rounds) == 272, "layout");
+_Static_assert(sizeof(struct deoxys_subkeys) == 280, "layout");
+_Static_assert(offsetof(struct deoxys_pieces, stage) == 1, "layout");
+_Static_assert(offsetof(struct deoxys_pieces, keys) == 8, "layout");
+_Static_assert(offsetof(struct deoxys_pieces, nonce) == 288, "layout");
+_Static_assert(offsetof(struct deoxys_pieces, auth) == 296, "layout");
+_Static_assert(offsetof(struct deoxys_pieces, checksum) == 312, "layout");
+_Static_assert(offsetof(struct deoxys_pieces, total) == 328, "layout");
+_Static_assert(offsetof(struct deoxys_pieces, rows) == 336, "layout");
+_Static_assert(sizeof(struct deoxys_pieces) == 344, "layout");
+_Static_assert(offsetof(struct deoxys_taken, number) == 344, "layout");
+_Static_assert(sizeof(struct deoxys_taken) == 352, "layout");
+_Static_assert(offsetof(struct deoxys_finished, number) == 344, "layout");
+_Static_assert(offsetof(struct deoxys_finished, tag) == 345, "layout");
+_Static_assert(offsetof(struct deoxys_finished, rows) == 368, "layout");
+_Static_assert(sizeof(struct deoxys_finished) == 376, "layout");
 
 enum { MESSAGE_LENGTH = 37, DATA_LENGTH = 18, AROUND = 16, LONGEST_KEY = 32, LONGEST_NONCE = 15 };
 
@@ -89,12 +105,17 @@ static int all_are(const uint8_t *bytes, size_t count, uint8_t value)
     return 1;
 }
 
-static void expect_surroundings(const struct memory *memory, const struct inputs *inputs)
+static void expect_inputs(const struct inputs *inputs)
 {
     struct inputs fresh = fresh_inputs();
+    expect(memcmp(inputs, &fresh, sizeof fresh) == 0, "a read-only input changed");
+}
+
+static void expect_surroundings(const struct memory *memory, const struct inputs *inputs)
+{
     expect(all_are(memory->before, AROUND, 0xa5), "the bytes before the buffer changed");
     expect(all_are(memory->after, AROUND, 0xa5), "the bytes after the buffer changed");
-    expect(memcmp(inputs, &fresh, sizeof fresh) == 0, "a read-only input changed");
+    expect_inputs(inputs);
 }
 
 /* An empty byte string as C programs often have it. */
@@ -269,6 +290,215 @@ static void refuse_too_much(void)
     expect(all_are(long_message, sizeof long_message, 0), "a refusal changed the buffer");
 }
 
+static struct deoxys_pieces begin_message(const struct suite *suite)
+{
+    struct inputs in = fresh_inputs();
+    struct deoxys_pieces state =
+        deoxys_begin(suite->number, null_if_empty(in.key, suite->key_length), suite->key_length,
+                     null_if_empty(in.nonce, suite->nonce_length), suite->nonce_length, in.data,
+                     sizeof in.data);
+    expect_inputs(&in);
+    return state;
+}
+
+/* The state that comes next, after a piece that must be taken. */
+static struct deoxys_pieces take(struct deoxys_pieces state, uint8_t *piece, size_t length)
+{
+    struct deoxys_taken taken = deoxys_take(state, piece, length);
+    expect(taken.number == DEOXYS_DONE, "a piece wasn't taken");
+    return taken.pieces;
+}
+
+/* The next piece is a part of the message: nothing before or after it changes. */
+static struct deoxys_pieces take_part(struct deoxys_pieces state, struct memory *memory,
+                                      size_t start, size_t end)
+{
+    struct memory expected = *memory;
+    uint8_t *piece = memory->message + start;
+    struct deoxys_pieces next = take(state, start == end ? NULL : piece, end - start);
+    memcpy(expected.message + start, piece, end - start);
+    expect(memcmp(memory, &expected, sizeof expected) == 0, "bytes around a piece changed");
+    return next;
+}
+
+static void expect_as_at_once(struct deoxys_finished finished, struct deoxys_sealed at_once)
+{
+    expect(finished.number == DEOXYS_DONE, "the finish wasn't done");
+    expect(finished.rows == at_once.rows, "rows by pieces");
+    expect(memcmp(finished.tag, at_once.tag, sizeof at_once.tag) == 0, "another tag by pieces");
+}
+
+static void seal_by_pieces(const struct suite *suite)
+{
+    /* Where each piece ends; the one that ends with the message is the last. */
+    static const size_t cuttings[][5] = {
+        {37}, {16, 37}, {32, 37}, {16, 32, 37}, {0, 16, 16, 32, 37}};
+    size_t count = sizeof cuttings / sizeof cuttings[0];
+    struct memory at_once = fresh_memory();
+    struct deoxys_sealed sealed = seal_message(suite, &at_once);
+    for (size_t i = 0; i < count; i++) {
+        struct memory memory = fresh_memory();
+        struct deoxys_pieces state = begin_message(suite);
+        for (size_t start = 0, n = 0; start < MESSAGE_LENGTH; start = cuttings[i][n++])
+            state = take_part(state, &memory, start, cuttings[i][n]);
+        expect_as_at_once(deoxys_finish(state), sealed);
+        expect(memcmp(&memory, &at_once, sizeof memory) == 0, "another ciphertext by pieces");
+    }
+    printf("    cut in %zu ways: compared with one call\n", count);
+}
+
+static void seal_null_by_pieces(const struct suite *suite)
+{
+    struct inputs in = fresh_inputs();
+    struct deoxys_pieces state = deoxys_begin(suite->number, in.key, suite->key_length, in.nonce,
+                                              suite->nonce_length, NULL, 0);
+    struct deoxys_finished finished = deoxys_finish(take(state, NULL, 0));
+    expect_as_at_once(finished, seal_nothing(suite, NULL, NULL));
+    printf("    data and piece NULL: finished %d, %zu row\n", finished.number, finished.rows);
+}
+
+/* Field by field: what is between them means nothing. */
+static int same_state(const struct deoxys_pieces *a, const struct deoxys_pieces *b)
+{
+    return a->number == b->number && a->stage == b->stage && a->keys.rounds == b->keys.rounds &&
+           a->total == b->total && a->rows == b->rows &&
+           memcmp(a->keys.bytes, b->keys.bytes, sizeof a->keys.bytes) == 0 &&
+           memcmp(a->nonce, b->nonce, sizeof a->nonce) == 0 &&
+           memcmp(a->auth, b->auth, sizeof a->auth) == 0 &&
+           memcmp(a->checksum, b->checksum, sizeof a->checksum) == 0;
+}
+
+static void refuse_piece(const struct deoxys_pieces *state, size_t length, uint8_t number)
+{
+    struct memory memory = fresh_memory(), fresh = fresh_memory();
+    struct deoxys_taken taken = deoxys_take(*state, length == 0 ? NULL : memory.message, length);
+    expect(taken.number == number, "another number was expected for a piece");
+    expect(same_state(&taken.pieces, state), "a refused piece changed the state");
+    expect(memcmp(&memory, &fresh, sizeof fresh) == 0, "a refused piece changed");
+}
+
+static void refuse_finish(const struct deoxys_pieces *state, uint8_t number, const char *what)
+{
+    struct deoxys_finished finished = deoxys_finish(*state);
+    printf("    %s: number %d, %zu rows\n", what, finished.number, finished.rows);
+    expect(finished.number == number, "another number was expected for a finish");
+    expect(finished.rows == 0, "a refused finish counts rows");
+    expect(all_are(finished.tag, sizeof finished.tag, 0), "a refused finish gives a tag");
+    expect(same_state(&finished.pieces, state), "a refused finish changed the state");
+}
+
+static void refuse_pieces(const struct deoxys_pieces *state, uint8_t number)
+{
+    refuse_piece(state, 0, number);
+    refuse_piece(state, 16, number);
+    refuse_piece(state, MESSAGE_LENGTH, number);
+}
+
+static void refuse_every_call(struct deoxys_pieces state, uint8_t number, const char *what)
+{
+    refuse_pieces(&state, number);
+    refuse_finish(&state, number, what);
+}
+
+static void refuse_begin(struct suite wrong, uint8_t number, const char *what)
+{
+    struct deoxys_pieces state = begin_message(&wrong);
+    expect(state.number == number, "another number was expected for a begin");
+    refuse_every_call(state, number, what);
+}
+
+static void refuse_beginnings(const struct suite *suite)
+{
+    struct suite other_number = *suite, longer_key = *suite, longer_nonce = *suite;
+    struct suite no_key = *suite, no_nonce = *suite;
+    other_number.number = 5;
+    longer_key.key_length++;
+    longer_nonce.nonce_length++;
+    no_key.key_length = 0;
+    no_nonce.nonce_length = 0;
+    refuse_begin(other_number, DEOXYS_BAD_SUITE, "begun with suite 5");
+    refuse_begin(longer_key, DEOXYS_BAD_KEY_LENGTH, "begun with a key a byte too long");
+    refuse_begin(longer_nonce, DEOXYS_BAD_NONCE_LENGTH, "begun with a nonce a byte too long");
+    refuse_begin(no_key, DEOXYS_BAD_KEY_LENGTH, "begun with key NULL");
+    refuse_begin(no_nonce, DEOXYS_BAD_NONCE_LENGTH, "begun with nonce NULL");
+}
+
+static void refuse_after_the_last(const struct suite *suite)
+{
+    struct memory memory = fresh_memory(), at_once = fresh_memory();
+    struct deoxys_pieces closed = take_part(begin_message(suite), &memory, 0, MESSAGE_LENGTH);
+    refuse_pieces(&closed, DEOXYS_NO_MORE);
+    struct deoxys_finished finished = deoxys_finish(closed);
+    expect_as_at_once(finished, seal_message(suite, &at_once));
+    refuse_every_call(finished.pieces, DEOXYS_NO_MORE, "after the finish");
+}
+
+static void refuse_forged_states(const struct suite *suite)
+{
+    struct deoxys_pieces rounds = begin_message(suite), total = rounds, rows = rounds;
+    struct deoxys_pieces stage = rounds, number = rounds;
+    rounds.keys.rounds = 17;
+    total.total = SIZE_MAX;
+    rows.rows = SIZE_MAX;
+    stage.stage = 255;
+    number.number = 200;
+    number.stage = 255;
+    refuse_every_call(rounds, DEOXYS_NO_MORE, "a state of 17 rounds");
+    refuse_every_call(total, DEOXYS_NO_MORE, "a state of as many bytes as there are");
+    refuse_every_call(rows, DEOXYS_NO_MORE, "a state of as many rows as there are");
+    refuse_every_call(stage, DEOXYS_NO_MORE, "a state of stage 255");
+    refuse_every_call(number, 200, "a state of number 200 and stage 255");
+}
+
+static void refuse_too_long_a_piece(const struct suite *suite)
+{
+    static uint8_t by_pieces[DEOXYS_LIMIT + 1], at_once[DEOXYS_LIMIT];
+    struct inputs in = fresh_inputs();
+    memset(by_pieces, 0, sizeof by_pieces);
+    memset(at_once, 0, sizeof at_once);
+    struct deoxys_sealed sealed =
+        deoxys_seal(suite->number, in.key, suite->key_length, in.nonce, suite->nonce_length,
+                    in.data, sizeof in.data, at_once, sizeof at_once);
+    struct deoxys_pieces state = begin_message(suite);
+    struct deoxys_taken refused = deoxys_take(state, by_pieces, sizeof by_pieces);
+    expect(refused.number == DEOXYS_MESSAGE_TOO_LONG, "a piece over the limit");
+    expect(same_state(&refused.pieces, &state), "a piece over the limit changed the state");
+    expect(all_are(by_pieces, sizeof by_pieces, 0), "a piece over the limit changed");
+
+    state = take(refused.pieces, by_pieces, DEOXYS_LIMIT);
+    refuse_piece(&state, 1, DEOXYS_MESSAGE_TOO_LONG);
+    expect_as_at_once(deoxys_finish(take(state, NULL, 0)), sealed);
+    expect(memcmp(by_pieces, at_once, sizeof at_once) == 0, "another ciphertext by pieces");
+    expect(by_pieces[DEOXYS_LIMIT] == 0, "the byte over the limit changed");
+    printf("    a piece over the limit: number %d\n", refused.number);
+}
+
+static void refuse_too_much_data(const struct suite *suite)
+{
+    static uint8_t long_data[DEOXYS_LIMIT + 1];
+    struct inputs in = fresh_inputs();
+    struct deoxys_pieces state =
+        deoxys_begin(suite->number, in.key, suite->key_length, in.nonce, suite->nonce_length,
+                     long_data, sizeof long_data);
+    refuse_every_call(state, DEOXYS_DATA_TOO_LONG, "begun with data over the limit");
+}
+
+static void by_pieces(const struct suite *suite)
+{
+    printf("  by pieces\n");
+    if (suite->number > DEOXYS_I_256) {
+        refuse_begin(*suite, DEOXYS_BAD_SUITE, "begun with Deoxys-II");
+        return;
+    }
+    seal_by_pieces(suite);
+    seal_null_by_pieces(suite);
+    refuse_beginnings(suite);
+    refuse_after_the_last(suite);
+    refuse_forged_states(suite);
+    refuse_too_much_data(suite);
+    refuse_too_long_a_piece(suite);
+}
+
 int main(void)
 {
     for (size_t i = 0; i < sizeof suites / sizeof suites[0]; i++) {
@@ -278,6 +508,7 @@ int main(void)
         refuse(&suites[i]);
         seal_and_open_null(&suites[i]);
         refuse_null(&suites[i]);
+        by_pieces(&suites[i]);
     }
     refuse_too_much();
     printf("C: %d mismatches\n", mismatches);

@@ -1,15 +1,19 @@
-//! Times the archive and the crate's files side by side, and writes a table.
+//! Times the archive and the crate's files side by side, and sealing by pieces beside one call, and writes
+//! two tables.
 #![forbid(unsafe_code)]
 
 mod stopwatch;
 
-use calibration::SUITES;
+use calibration::{LIMIT, SUITES};
 use cases::Case;
 use std::process::ExitCode;
-use stopwatch::{Operation, ROUNDS, Side, Task};
+use stopwatch::{Operation, PIECE, ROUNDS, Side, Task};
 
 const DATA_LENGTH: usize = 18;
 const MESSAGE_LENGTHS: [usize; 5] = [16, 144, 4096, 65_536, 1_048_576];
+
+/// The time by pieces may be so many times that of one call.
+const MOST_BY_PIECES: f64 = 1.1;
 
 fn main() -> ExitCode {
     if oracle::COUNTS_ROUNDS {
@@ -20,11 +24,14 @@ fn main() -> ExitCode {
     }
     print_heading();
     let mut tasks = tasks(&sides());
+    let mut by_pieces = tasks_by_pieces();
     for _ in 0..ROUNDS {
-        tasks.iter_mut().for_each(Task::measure);
+        tasks.iter_mut().chain(&mut by_pieces).for_each(Task::measure);
     }
     tasks.iter().for_each(print_row);
-    ExitCode::SUCCESS
+    print_heading_by_pieces();
+    by_pieces.iter().for_each(print_row_by_pieces);
+    if by_pieces.iter().all(is_fast_by_pieces) { ExitCode::SUCCESS } else { ExitCode::FAILURE }
 }
 
 /// A task for each row of the table.
@@ -39,6 +46,14 @@ fn tasks(sides: &[Side]) -> Vec<Task> {
         }
     }
     tasks
+}
+
+/// Deoxys-I alone is sealed by pieces.
+fn tasks_by_pieces() -> Vec<Task> {
+    let suites = SUITES.iter().filter(|suite| !suite.is_two_pass());
+    let cases = suites.map(|suite| Case::new(suite, DATA_LENGTH, LIMIT, LIMIT as u64));
+    let sides = [Side::Ours, Side::OursByPieces];
+    cases.map(|case| Task::new(case, Operation::Sealing, &sides)).collect()
 }
 
 /// Ours first, then the crate as far as it can run here.
@@ -88,6 +103,35 @@ fn print_row(task: &Task) {
         shown(ratio(with), 2),
         shown(ratio(without), 2),
     );
+}
+
+fn print_heading_by_pieces() {
+    println!(
+        "\nSealing {LIMIT} bytes in pieces of {PIECE} bytes beside one call, in the same rounds. A ratio is \
+         the time by pieces over that of one call, and has to be at most {MOST_BY_PIECES}.\n"
+    );
+    println!("| suite | one call | by pieces | by pieces/one call | at most {MOST_BY_PIECES} |");
+    println!("|---|---:|---:|---:|---|");
+}
+
+fn print_row_by_pieces(task: &Task) {
+    println!(
+        "| {} | {} | {} | {} | {} |",
+        task.case.suite.name,
+        shown(task.median(Side::Ours), 0),
+        shown(task.median(Side::OursByPieces), 0),
+        shown(ratio_by_pieces(task), 3),
+        if is_fast_by_pieces(task) { "holds" } else { "DOES NOT HOLD" },
+    );
+}
+
+fn is_fast_by_pieces(task: &Task) -> bool {
+    ratio_by_pieces(task).is_some_and(|ratio| ratio <= MOST_BY_PIECES)
+}
+
+fn ratio_by_pieces(task: &Task) -> Option<f64> {
+    let one_call = task.median(Side::Ours);
+    task.median(Side::OursByPieces).zip(one_call).map(|(by_pieces, one_call)| by_pieces / one_call)
 }
 
 fn shown(value: Option<f64>, decimals: usize) -> String {

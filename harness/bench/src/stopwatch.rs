@@ -1,6 +1,7 @@
 //! A task is timed on each side in turn, and all tasks in each round, so that a slow moment of the machine
 //! hits all sides of all rows alike.
 
+use calibration::{Pieces, Sealed};
 use cases::Case;
 use std::{hint::black_box, time::Instant};
 
@@ -10,9 +11,14 @@ pub const ROUNDS: usize = 61;
 /// Short messages are timed many at a time, so that reading the clock doesn't count.
 const BYTES_OF_A_MEASUREMENT: usize = 65_536;
 
+/// Bytes of a piece.
+pub const PIECE: usize = 4096;
+
 #[derive(Clone, Copy, PartialEq, Eq)]
 pub enum Side {
     Ours,
+    /// Sealing alone: the library has no other operation by pieces.
+    OursByPieces,
     CrateWithInstructions,
     CrateWithout,
 }
@@ -92,11 +98,22 @@ impl Task {
             (Side::Ours, Operation::Opening) => {
                 calibration::open(suite, key, nonce, data, buffer, tag).is_ok()
             }
+            (Side::OursByPieces, _) => seal_by_pieces(&self.case, buffer).tag == *tag,
             (_, Operation::Sealing) => oracle::seal(suite, key, nonce, data, buffer) == *tag,
             (_, Operation::Opening) => oracle::open(suite, key, nonce, data, buffer, tag),
         };
         assert!(right, "a wrong answer on {}", self.case.name());
     }
+}
+
+fn seal_by_pieces(case: &Case, buffer: &mut [u8]) -> Sealed {
+    let Case { key, nonce, data, .. } = case;
+    let begun = Pieces::begin(case.suite.number, key, nonce, data);
+    let mut pieces = begun.expect("the case is allowed");
+    for piece in buffer.chunks_mut(PIECE) {
+        pieces = pieces.take(piece).expect("the case is allowed");
+    }
+    pieces.finish()
 }
 
 fn median(mut times: Vec<f64>) -> f64 {

@@ -1,4 +1,4 @@
-//! The archive's two functions as include/calibration.h declares them, and the only unsafe code over
+//! The archive's five functions as include/calibration.h declares them, and the only unsafe code over
 //! them.
 
 /// The answer of a sealing.
@@ -15,6 +15,45 @@ pub struct Sealed {
 #[derive(Clone, Copy, Debug, PartialEq, Eq)]
 pub struct Opened {
     pub number: u8,
+    pub rows: usize,
+}
+
+/// The expanded key.
+#[repr(C)]
+#[derive(Clone, Copy, PartialEq, Eq)]
+pub struct Subkeys {
+    pub bytes: [u8; 272],
+    pub rounds: usize,
+}
+
+/// The running state of a sealing by pieces. It holds key material, so it isn't `Debug`. A copy goes on
+/// from where the state stood: `calibration::Pieces` can't be copied.
+#[repr(C)]
+#[derive(Clone, Copy, PartialEq, Eq)]
+pub struct Pieces {
+    pub number: u8,
+    pub stage: u8,
+    pub keys: Subkeys,
+    pub nonce: [u8; 8],
+    pub auth: [u8; 16],
+    pub checksum: [u8; 16],
+    pub total: usize,
+    pub rows: usize,
+}
+
+/// The answer to a piece.
+#[repr(C)]
+pub struct Taken {
+    pub pieces: Pieces,
+    pub number: u8,
+}
+
+/// The answer to a finish.
+#[repr(C)]
+pub struct Finished {
+    pub pieces: Pieces,
+    pub number: u8,
+    pub tag: [u8; 16],
     pub rows: usize,
 }
 
@@ -44,6 +83,20 @@ unsafe extern "C" {
         tag: *const u8,
         tag_length: usize,
     ) -> Opened;
+
+    fn deoxys_begin(
+        suite: u8,
+        key: *const u8,
+        key_length: usize,
+        nonce: *const u8,
+        nonce_length: usize,
+        data: *const u8,
+        data_length: usize,
+    ) -> Pieces;
+
+    fn deoxys_take(state: Pieces, piece: *mut u8, piece_length: usize) -> Taken;
+
+    fn deoxys_finish(state: Pieces) -> Finished;
 }
 
 pub fn seal(suite: u8, key: &[u8], nonce: &[u8], data: &[u8], buffer: &mut [u8]) -> Sealed {
@@ -90,9 +143,34 @@ pub fn open(
     }
 }
 
+pub fn begin(suite: u8, key: &[u8], nonce: &[u8], data: &[u8]) -> Pieces {
+    // SAFETY: as for `seal`.
+    unsafe {
+        deoxys_begin(
+            suite,
+            key.as_ptr(),
+            key.len(),
+            nonce.as_ptr(),
+            nonce.len(),
+            data.as_ptr(),
+            data.len(),
+        )
+    }
+}
+
+pub fn take(state: Pieces, piece: &mut [u8]) -> Taken {
+    // SAFETY: as for `seal`. There is no condition on the state either.
+    unsafe { deoxys_take(state, piece.as_mut_ptr(), piece.len()) }
+}
+
+pub fn finish(state: Pieces) -> Finished {
+    // SAFETY: there is no condition on the state.
+    unsafe { deoxys_finish(state) }
+}
+
 #[cfg(test)]
 mod tests {
-    use super::{Opened, Sealed};
+    use super::{Finished, Opened, Pieces, Sealed, Subkeys, Taken};
     use std::mem::{offset_of, size_of};
 
     /// The layout that a C compiler gives the header's structs on x86-64.
@@ -108,5 +186,36 @@ mod tests {
         assert_eq!(offset_of!(Opened, rows), 8);
         assert_eq!(size_of::<Opened>(), 16);
         assert_eq!(align_of::<Opened>(), 8);
+
+        assert_eq!(offset_of!(Taken, pieces), 0);
+        assert_eq!(offset_of!(Taken, number), 344);
+        assert_eq!(size_of::<Taken>(), 352);
+        assert_eq!(align_of::<Taken>(), 8);
+
+        assert_eq!(offset_of!(Finished, pieces), 0);
+        assert_eq!(offset_of!(Finished, number), 344);
+        assert_eq!(offset_of!(Finished, tag), 345);
+        assert_eq!(offset_of!(Finished, rows), 368);
+        assert_eq!(size_of::<Finished>(), 376);
+        assert_eq!(align_of::<Finished>(), 8);
+    }
+
+    #[test]
+    fn the_state_by_pieces_is_laid_out_as_in_c() {
+        assert_eq!(offset_of!(Pieces, number), 0);
+        assert_eq!(offset_of!(Pieces, stage), 1);
+        assert_eq!(offset_of!(Pieces, keys), 8);
+        assert_eq!(offset_of!(Pieces, nonce), 288);
+        assert_eq!(offset_of!(Pieces, auth), 296);
+        assert_eq!(offset_of!(Pieces, checksum), 312);
+        assert_eq!(offset_of!(Pieces, total), 328);
+        assert_eq!(offset_of!(Pieces, rows), 336);
+        assert_eq!(size_of::<Pieces>(), 344);
+        assert_eq!(align_of::<Pieces>(), 8);
+
+        assert_eq!(offset_of!(Subkeys, bytes), 0);
+        assert_eq!(offset_of!(Subkeys, rounds), 272);
+        assert_eq!(size_of::<Subkeys>(), 280);
+        assert_eq!(align_of::<Subkeys>(), 8);
     }
 }

@@ -1,22 +1,24 @@
-//! The library `libcalibration.a` from Rust: Deoxys sealing and opening in place, slices in, a `Result`
-//! out.
+//! The library `libcalibration.a` from Rust: Deoxys sealing and opening in place, and Deoxys-I sealing by
+//! pieces; slices in, a `Result` out.
 #![deny(unsafe_code)]
 #![deny(unsafe_op_in_unsafe_fn)]
 
 #[allow(unsafe_code)]
 pub mod ffi;
+mod pieces;
 mod suite;
 
+pub use pieces::{Pieces, Refused};
 pub use suite::{SUITES, Suite};
 
 use std::fmt;
 
-/// The most bytes of data, and the most bytes of message, in one call.
+/// The most bytes of data, and the most bytes of message, in one call or in all pieces of one message.
 pub const LIMIT: usize = 1_048_576;
 
 pub type Tag = [u8; 16];
 
-/// A message was sealed: the buffer holds its ciphertext.
+/// A message was sealed: the buffer holds its ciphertext, or the pieces do.
 #[derive(Clone, Copy, Debug, PartialEq, Eq)]
 pub struct Sealed {
     pub tag: Tag,
@@ -31,7 +33,7 @@ pub struct Opened {
     pub rows: usize,
 }
 
-/// Why a call was refused. The buffer is as it was, but for `WrongTag`.
+/// Why a call was refused. The buffer or the piece is as it was, but for `WrongTag`.
 #[derive(Clone, Copy, Debug, PartialEq, Eq)]
 pub enum Refusal {
     BadSuite,
@@ -44,6 +46,8 @@ pub enum Refusal {
     WrongTag {
         rows: usize,
     },
+    /// By pieces: the message has had its last piece.
+    NoMore,
 }
 
 /// Enciphers the message in the buffer and gives its tag.
@@ -81,6 +85,7 @@ fn done_or_refused(number: u8, rows: usize) -> Result<(), Refusal> {
         5 => Refusal::MessageTooLong,
         6 => Refusal::BadTagLength,
         7 => Refusal::WrongTag { rows },
+        8 => Refusal::NoMore,
         _ => panic!("the library answered {number}, which its contract excludes"),
     })
 }
@@ -88,13 +93,14 @@ fn done_or_refused(number: u8, rows: usize) -> Result<(), Refusal> {
 impl fmt::Display for Refusal {
     fn fmt(&self, f: &mut fmt::Formatter<'_>) -> fmt::Result {
         f.write_str(match self {
-            Refusal::BadSuite => "the suite isn't 1 to 4",
+            Refusal::BadSuite => "the suite isn't 1 to 4, or by pieces 1 or 2",
             Refusal::BadKeyLength => "the key doesn't have the suite's length",
             Refusal::BadNonceLength => "the nonce doesn't have the suite's length",
             Refusal::DataTooLong => "the associated data is over 1,048,576 bytes",
             Refusal::MessageTooLong => "the message or ciphertext is over 1,048,576 bytes",
             Refusal::BadTagLength => "the tag isn't 16 bytes",
             Refusal::WrongTag { .. } => "the tag is wrong",
+            Refusal::NoMore => "the message has had its last piece",
         })
     }
 }

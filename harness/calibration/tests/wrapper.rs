@@ -1,17 +1,11 @@
 //! The wrapper over the archive: what each answer is turned into, and what it leaves.
 
-use calibration::{LIMIT, Refusal, SUITES, Suite, open, seal};
+mod inputs;
+
+use calibration::{LIMIT, Refusal, SUITES, open, seal};
+use inputs::{DATA, key, nonce};
 
 const MESSAGE: [u8; 37] = *b"thirty-seven bytes: 2 blocks and 5 on";
-const DATA: [u8; 18] = *b"eighteen bytes, ad";
-
-fn key(suite: &Suite) -> Vec<u8> {
-    (1..=suite.key_length as u8).collect()
-}
-
-fn nonce(suite: &Suite) -> Vec<u8> {
-    (101..=100 + suite.nonce_length as u8).collect()
-}
 
 #[test]
 fn what_is_sealed_opens_again() {

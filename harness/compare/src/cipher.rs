@@ -40,10 +40,17 @@ struct Verdicts {
     crate_accepts: bool,
 }
 
+/// The crate's answer to a case.
+pub struct SealedByCrate {
+    pub ciphertext: Vec<u8>,
+    pub tag: [u8; 16],
+    pub calls: usize,
+}
+
 #[derive(Debug, PartialEq)]
-struct Calls {
-    ours: usize,
-    by_crate: usize,
+pub struct Calls {
+    pub ours: usize,
+    pub by_crate: usize,
 }
 
 pub fn check(case: &Case, report: &mut Report) {
@@ -67,7 +74,7 @@ pub fn check_every_tag_bit(case: &Case, report: &mut Report) {
     }
 }
 
-struct Checker<'a> {
+pub struct Checker<'a> {
     case: &'a Case,
     suite: u8,
     report: &'a mut Report,
@@ -75,7 +82,7 @@ struct Checker<'a> {
 }
 
 impl<'a> Checker<'a> {
-    fn new(case: &'a Case, report: &'a mut Report) -> Self {
+    pub fn new(case: &'a Case, report: &'a mut Report) -> Self {
         Checker { case, suite: case.suite.number, report, damage: None }
     }
 
@@ -84,18 +91,24 @@ impl<'a> Checker<'a> {
         let Case { key, nonce, data, message, .. } = self.case;
         let (ours, our_bytes, untouched) =
             surrounded(message, |buffer| ffi::seal(self.suite, key, nonce, data, buffer));
-        let mut ciphertext = message.clone();
-        let (tag, by_crate) = oracle::count_calls(self.suite, || {
-            oracle::seal(self.suite, key, nonce, data, &mut ciphertext)
-        });
+        let SealedByCrate { ciphertext, tag, calls } = self.sealed_by_crate();
 
         self.values(Kind::SealingDone, ours.number, 0);
         self.bytes(Kind::Ciphertext, &our_bytes, &ciphertext);
         self.bytes(Kind::Tag, &ours.tag, &tag);
-        self.calls(Kind::SealingCalls, Calls { ours: ours.rows, by_crate });
+        self.calls(Kind::SealingCalls, Calls { ours: ours.rows, by_crate: calls });
         self.values(Kind::Surroundings, untouched, true);
         let (key, nonce, data) = (key.clone(), nonce.clone(), data.clone());
         Opening { key, nonce, data, ciphertext, tag }
+    }
+
+    pub fn sealed_by_crate(&self) -> SealedByCrate {
+        let Case { key, nonce, data, message, .. } = self.case;
+        let mut ciphertext = message.clone();
+        let (tag, calls) = oracle::count_calls(self.suite, || {
+            oracle::seal(self.suite, key, nonce, data, &mut ciphertext)
+        });
+        SealedByCrate { ciphertext, tag, calls }
     }
 
     fn opening(&mut self, opening: &Opening) {
@@ -165,7 +178,7 @@ impl<'a> Checker<'a> {
     }
 
     /// The crate draws keystream for the rest after the whole blocks, even where there is none.
-    fn calls(&mut self, kind: Kind, calls: Calls) {
+    pub fn calls(&mut self, kind: Kind, calls: Calls) {
         let length = self.case.message.len();
         let has_no_rest = length > 0 && length.is_multiple_of(16);
         let one_more = self.case.suite.is_two_pass() && has_no_rest;
@@ -177,13 +190,13 @@ impl<'a> Checker<'a> {
         self.values(kind, calls, Calls { ours, by_crate });
     }
 
-    fn values<T: PartialEq + Debug>(&mut self, kind: Kind, seen: T, expected: T) {
+    pub fn values<T: PartialEq + Debug>(&mut self, kind: Kind, seen: T, expected: T) {
         let name = || name(self.case, self.damage);
         let place = Place::new(self.suite, kind, &name);
         self.report.values(place, seen, expected);
     }
 
-    fn bytes(&mut self, kind: Kind, seen: &[u8], expected: &[u8]) {
+    pub fn bytes(&mut self, kind: Kind, seen: &[u8], expected: &[u8]) {
         let name = || name(self.case, self.damage);
         let place = Place::new(self.suite, kind, &name);
         self.report.bytes(place, seen, expected);

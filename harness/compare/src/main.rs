@@ -3,6 +3,7 @@
 
 mod cipher;
 mod lengths;
+mod pieces;
 mod refusals;
 mod report;
 mod sample;
@@ -57,6 +58,11 @@ fn compare() -> ExitCode {
             cipher::check_every_tag_bit(&Case::new(suite, data, message, 0), &mut report);
         }
         refusals::check(suite, &mut report);
+        if !suite.is_two_pass() {
+            for (index, (data, message)) in lengths::to_cut().enumerate() {
+                pieces::check(&Case::new(suite, data, message, index as u64), &mut report);
+            }
+        }
     }
     report.print();
     if report.is_good() { ExitCode::SUCCESS } else { ExitCode::FAILURE }

@@ -19,6 +19,48 @@ pub enum Kind {
     Surroundings,
     Refused(usize),
     OneCallMore,
+    ByPieces(Step),
+}
+
+/// What of a sealing by pieces.
+#[derive(Clone, Copy, PartialEq, Eq, PartialOrd, Ord)]
+pub enum Step {
+    Done,
+    Ciphertext,
+    Tag,
+    Calls,
+    Surroundings,
+    Refused(u8),
+}
+
+impl Step {
+    const ALL: [Step; 7] = [
+        Step::Done,
+        Step::Ciphertext,
+        Step::Tag,
+        Step::Calls,
+        Step::Surroundings,
+        Step::Refused(5),
+        Step::Refused(8),
+    ];
+
+    fn label(self) -> String {
+        match self {
+            Step::Done => "by pieces: number 0 of every call",
+            Step::Ciphertext => "by pieces: ciphertext as the crate's",
+            Step::Tag => "by pieces: tag as the crate's",
+            Step::Calls => "by pieces: block calls",
+            Step::Surroundings => "by pieces: bytes around every piece untouched",
+            Step::Refused(number) => {
+                return format!("by pieces, refused with {number}: answer, state and piece");
+            }
+        }
+        .to_string()
+    }
+
+    fn is_ours_alone(self) -> bool {
+        !matches!(self, Step::Ciphertext | Step::Tag | Step::Calls)
+    }
 }
 
 /// What of an opening is damaged.
@@ -63,7 +105,11 @@ impl Kind {
         ];
         kinds.extend(Part::ALL.map(Kind::Damaged));
         kinds.extend((1..=6).map(Kind::Refused));
-        kinds.extend(suite.is_two_pass().then_some(Kind::OneCallMore));
+        if suite.is_two_pass() {
+            kinds.push(Kind::OneCallMore);
+        } else {
+            kinds.extend(Step::ALL.map(Kind::ByPieces));
+        }
         kinds
     }
 
@@ -85,6 +131,7 @@ impl Kind {
             Kind::Surroundings => "bytes before and after our buffer untouched",
             Kind::Refused(number) => return format!("refused with {number}: answer and buffer"),
             Kind::OneCallMore => "the crate made one block call more (whole blocks)",
+            Kind::ByPieces(step) => return step.label(),
         }
         .to_string()
     }
@@ -95,7 +142,11 @@ impl Kind {
     }
 
     fn is_ours_alone(self) -> bool {
-        matches!(self, Kind::SealingDone | Kind::Zeros | Kind::Surroundings | Kind::Refused(_))
+        match self {
+            Kind::SealingDone | Kind::Zeros | Kind::Surroundings | Kind::Refused(_) => true,
+            Kind::ByPieces(step) => step.is_ours_alone(),
+            _ => false,
+        }
     }
 }
 
