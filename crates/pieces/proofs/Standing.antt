@@ -2,15 +2,16 @@
 -- Assumes nothing.
 use mathlib.Core.Path.{_≡_, refl, sym, _∙_}
 use mathlib.Core.Bool.{Bool, true, false, false≢true}
+use mathlib.Core.Logic.{_⊎_, inl, inr, ⊎-elim}
 use Prim.Native.Nat.{ℕ, zero, suc, _+_, _%_, _≤_, _<_}
 use native.Mathlib.Nat.{suc-ne-zero}
 use native.Mathlib.Omega.{arith}
 use lib.Dec.{eqb, ltb}
-use borrow.Author.Tests.{eq-eqb, ne-eqb, lt-ltb, le-ltb, le-leb, lt-leb, leb-true, ltb-false}
+use borrow.Author.Tests.{eq-eqb, ne-eqb, lt-ltb, le-ltb, le-leb, lt-leb, leb-true, eqb-true, ltb-false}
 use Rattle.octets.specs.Octets.{pick}
 use Rattle.suites.specs.Suites.{refusal}
 use Rattle.pieces.specs.declared.Pieces.{Pieces}
-use Rattle.pieces.specs.ByPieces.{beginRefusal, standing, takeRefusal}
+use Rattle.pieces.specs.ByPieces.{beginRefusal, sound, standing, takeRefusal}
 
 -- ---- begin
 
@@ -31,6 +32,54 @@ module _ (suite key nonce ad : ℕ) where
       either true n e = (refl, e)
       either false n e = absurd (suc-ne-zero 0 e)
 
+-- ---- a state's bounds
+
+module _ (p : Pieces) where
+  pub many-bytes : 1048576 < p .total → false ≡ sound p
+  many-bytes h = simp (lt-leb _ _ h)
+
+  module _ (h₀ : p .total ≤ 1048576) where
+    pub many-rows : 131072 < p .count .rows → false ≡ sound p
+    many-rows h = simp (le-leb _ _ h₀, lt-leb _ _ h)
+
+    module _ (h₁ : p .count .rows ≤ 131072) where
+      pub of-a-short-key : p .keys .rounds ≡ 14 → true ≡ sound p
+      of-a-short-key e = simp (le-leb _ _ h₀, le-leb _ _ h₁, eq-eqb _ _ e)
+
+      pub of-a-long-key : p .keys .rounds ≡ 16 → true ≡ sound p
+      of-a-long-key e = simp (le-leb _ _ h₀, le-leb _ _ h₁, ne-eqb (p .keys .rounds) 14 (λ x. omega (arith, e, x)), eq-eqb _ _ e)
+
+      pub of-no-key : (p .keys .rounds ≡ 14 → ⊥) → (p .keys .rounds ≡ 16 → ⊥) → false ≡ sound p
+      of-no-key h h′ = simp (le-leb _ _ h₀, le-leb _ _ h₁, ne-eqb _ _ h, ne-eqb _ _ h′)
+
+pub record Bounds (p : Pieces) : Type 0 where
+  pub few-bytes : p .total ≤ 1048576
+  pub few-rows : p .count .rows ≤ 131072
+  pub of-a-key : (p .keys .rounds ≡ 14) ⊎ (p .keys .rounds ≡ 16)
+
+both : (a b : Bool) → pick a b false ≡ true → (a ≡ true) × (b ≡ true)
+both true b e = (refl, e)
+both false b e = absurd (false≢true e)
+
+either : (a b : Bool) → pick a true b ≡ true → (a ≡ true) ⊎ (b ≡ true)
+either true b e = inl refl
+either false b e = inr e
+
+pub bounds : (p : Pieces) → sound p ≡ true → Bounds p
+bounds p e =
+    let t = both _ _ e in
+    let u = both _ _ (t .1) in
+    record {
+      few-bytes = leb-true _ _ (t .0);
+      few-rows = leb-true _ _ (u .0);
+      of-a-key = ⊎-elim (λ x. inl (eqb-true _ _ x)) (λ x. inr (eqb-true _ _ x)) (either _ _ (u .1));
+    }
+
+pub bounded : {p : Pieces} → Bounds p → sound p ≡ true
+bounded {p} g =
+    ⊎-elim (λ e. sym (of-a-short-key p (g .few-bytes) (g .few-rows) e))
+    (λ e. sym (of-a-long-key p (g .few-bytes) (g .few-rows) e)) (g .of-a-key)
+
 -- ---- every later call
 
 module _ (p : Pieces) (last : ℕ) where
@@ -44,31 +93,22 @@ module _ (p : Pieces) (last : ℕ) where
     past h = simp (eq-eqb _ _ h₀, lt-leb _ _ h)
 
     module _ (h₁ : p .stage ≤ last) where
-      pub many-rounds : 16 < p .keys .rounds → 8 ≡ standing p last
+      pub none : sound p ≡ true → 0 ≡ standing p last
       unfolding standing
-      many-rounds h = simp (eq-eqb _ _ h₀, le-leb _ _ h₁, lt-leb _ _ h)
+      none e = rw (eq-eqb _ _ h₀, le-leb _ _ h₁, e)
 
-      module _ (h₂ : p .keys .rounds ≤ 16) where
-        pub many-bytes : 1048576 < p .total → 8 ≡ standing p last
-        unfolding standing
-        many-bytes h = simp (eq-eqb _ _ h₀, le-leb _ _ h₁, le-leb _ _ h₂, lt-leb _ _ h)
-
-        module _ (h₃ : p .total ≤ 1048576) where
-          pub many-rows : 131072 < p .count .rows → 8 ≡ standing p last
-          unfolding standing
-          many-rows h = simp (eq-eqb _ _ h₀, le-leb _ _ h₁, le-leb _ _ h₂, le-leb _ _ h₃, lt-leb _ _ h)
-
-          pub none : p .count .rows ≤ 131072 → 0 ≡ standing p last
-          unfolding standing
-          none h = simp (eq-eqb _ _ h₀, le-leb _ _ h₁, le-leb _ _ h₂, le-leb _ _ h₃, le-leb _ _ h)
+      pub unsound : sound p ≡ false → 8 ≡ standing p last
+      unfolding standing
+      unsound e = rw (eq-eqb _ _ h₀, le-leb _ _ h₁, e)
 
 -- what holds where a state refuses nothing up to this stage
 pub record Stands (p : Pieces) (last : ℕ) : Type 0 where
   pub begun : p .number ≡ 0
   pub staged : p .stage ≤ last
-  pub few-rounds : p .keys .rounds ≤ 16
-  pub few-bytes : p .total ≤ 1048576
-  pub few-rows : p .count .rows ≤ 131072
+  pub within : Bounds p
+
+pub few-rounds : {p : Pieces} {last : ℕ} → Stands p last → p .keys .rounds ≤ 16
+few-rounds g = ⊎-elim (λ e. omega (arith, e)) (λ e. omega (arith, e)) (g .within .of-a-key)
 
 first-zero : (x n : ℕ) → pick (eqb x 0) n x ≡ 0 → x ≡ 0
 first-zero zero n e = refl
@@ -78,27 +118,15 @@ eight-or-none : (b : Bool) → _≡_ {A = ℕ} (pick b 0 8) 0 → b ≡ true
 eight-or-none true e = refl
 eight-or-none false e = absurd (suc-ne-zero 7 e)
 
-both : (a b : Bool) → pick a b false ≡ true → (a ≡ true) × (b ≡ true)
-both true b e = (refl, e)
-both false b e = absurd (false≢true e)
-
 pub stands : (p : Pieces) (last : ℕ) → standing p last ≡ 0 → Stands p last
 unfolding standing
 stands p last e =
     let z = first-zero (p .number) _ e in
-    let t₁ = both _ _ (eight-or-none _ (rw (eq-eqb _ _ z) at e)) in
-    let t₂ = both _ _ (t₁ .1) in
-    let t₃ = both _ _ (t₂ .1) in
-    record {
-      begun = z;
-      staged = leb-true _ _ (t₁ .0);
-      few-rounds = leb-true _ _ (t₂ .0);
-      few-bytes = leb-true _ _ (t₃ .0);
-      few-rows = leb-true _ _ (t₃ .1);
-    }
+    let t = both _ _ (eight-or-none _ (rw (eq-eqb _ _ z) at e)) in
+    record { begun = z; staged = leb-true _ _ (t .0); within = bounds p (t .1) }
 
 pub standing-none : {p : Pieces} {last : ℕ} → Stands p last → 0 ≡ standing p last
-standing-none {p} {last} g = none p last (g .begun) (g .staged) (g .few-rounds) (g .few-bytes) (g .few-rows)
+standing-none {p} {last} g = none p last (g .begun) (g .staged) (bounded (g .within))
 
 -- ---- a piece
 

@@ -2,7 +2,7 @@
 -- and the tag's row are those of crates/deoxys_i/specs/DeoxysI, and the state holds what these come to for what has been taken so far.
 -- Assumes nothing.
 use mathlib.Core.Path.{_≡_}
-use mathlib.Core.Bool.{Bool, false}
+use mathlib.Core.Bool.{Bool, true, false}
 use mathlib.Core.List.{List, [], _++_}
 use Prim.Native.Nat.{ℕ, _+_, _/_, _%_}
 use lib.Dec.{eqb, leb, ltb}
@@ -57,9 +57,11 @@ beginning suite key nonce ad =
 
 -- ---- what refuses a piece and the finish
 
--- what every state is that calls gave: no more rounds than an expanded key has, bytes than the limit, rows than so many of data and message make
+-- what holds of every state that calls gave: no more bytes than the limit, no more rows than so many of data and of message make, and the
+-- rounds of an expanded key
 abbrev pub sound : Pieces → Bool
-sound p = pick (leb (p .keys .rounds) 16) (pick (leb (p .total) limit) (leb (p .count .rows) 131072) false) false
+sound p =
+    pick (leb (p .total) limit) (pick (leb (p .count .rows) 131072) (pick (eqb (p .keys .rounds) 14) true (eqb (p .keys .rounds) 16)) false) false
 
 -- begin's number first of all; then 8 where the state is past this stage, or can be none that calls gave; or 0
 unfoldable pub standing : Pieces → ℕ → ℕ

@@ -5,7 +5,7 @@ ghost use lib.Dec.{eqb, ltb};
 ghost use lib.ListN.{length};
 ghost use Rattle.octets.specs.Octets.{pick};
 ghost use Rattle.suites.specs.Suites.{limit};
-ghost use Rattle.pieces.specs.ByPieces.{void, beginRefusal, standing, takeRefusal, took, pieceText};
+ghost use Rattle.pieces.specs.ByPieces.{void, beginRefusal, sound, standing, takeRefusal, took, pieceText};
 ghost use Rattle.pieces.specs.ByPieces.{BeginAllows, TakeAllows, FinishAllows};
 use deoxys_bc::Count;
 use suites::LIMIT;
@@ -24,8 +24,6 @@ const NO_MORE: u8 = 8;
 
 // The rows of so many bytes of data and of message as are allowed.
 const MOST_ROWS: usize = 131072;
-
-const MOST_ROUNDS: usize = 16;
 
 // What has been taken so far comes to: begin's number, the stage, the expanded key, the nonce, Auth, the checksum, the bytes taken and the
 // block cipher calls made. It holds key material.
@@ -156,7 +154,26 @@ fn first(number: u8, next: u8) -> u8
 }
 
 impl Pieces {
-    // Begin's number, or 8 past this stage. The last three tests are of states that no call gave: C can make any.
+    // What holds of every state that calls gave. C can make any: a wiped one has no rounds, and would leave a message as it is.
+    fn is_sound(self) -> bool
+        ensures { λ r. ⌜ r ≡ sound self ⌝ }
+    {
+        if LIMIT < self.total {
+            return false;
+        }
+        if MOST_ROWS < self.count.rows {
+            return false;
+        }
+        if self.keys.rounds == 14 {
+            return true;
+        }
+        if self.keys.rounds == 16 {
+            return true;
+        }
+        false
+    }
+
+    // Begin's number, or 8 past this stage.
     fn standing(self, last: u8) -> u8
         ensures { λ r. ⌜ r ≡ standing self last ⌝ }
     {
@@ -166,16 +183,10 @@ impl Pieces {
         if last < self.stage {
             return NO_MORE;
         }
-        if MOST_ROUNDS < self.keys.rounds {
-            return NO_MORE;
+        if self.is_sound() {
+            return 0;
         }
-        if LIMIT < self.total {
-            return NO_MORE;
-        }
-        if MOST_ROWS < self.count.rows {
-            return NO_MORE;
-        }
-        0
+        NO_MORE
     }
 
     // What the state refuses comes before the length.

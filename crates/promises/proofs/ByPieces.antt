@@ -1,6 +1,7 @@
 -- Sealing by pieces is one call: proofs of the statements of specs/ByPieces on what is taken.
 -- Assumes nothing.
 use mathlib.Core.Path.{_≡_, refl, sym, ap, _∙_, subst}
+use mathlib.Core.Logic.{_⊎_}
 use mathlib.Core.List.{List, [], _∷_, _++_}
 use Prim.Native.Nat.{ℕ, _+_, _≤_}
 use native.Mathlib.Omega.{arith}
@@ -9,7 +10,7 @@ use lib.ListN.{length, length-append}
 use borrow.Author.Tests.{le-ltb}
 use Rattle.tweakey.specs.Tweakey.{expanded}
 use Rattle.tweakey.specs.declared.Subkeys.{Subkeys}
-use Rattle.tweakey.proofs.Tweakeys.{rounds-small}
+use Rattle.tweakey.proofs.Tweakeys.{rounds-are}
 use Rattle.modes.specs.Rows.{enciphered, dataRows}
 use Rattle.deoxys_i.specs.DeoxysI.{messageRows, textOf, cryptRows, crypted, sealI}
 use Rattle.suites.specs.Suites.{refusal}
@@ -65,7 +66,7 @@ module _ (suite : ℕ) (key nonce ad message : List ℕ) (mine : suite ≤ 2) (f
       where
         by : FinishView q f → OneCall (sealing suite key nonce ad message) (crypted (enciphered (expanded key)) (expanded key) nonce message) f
         by (FinishView.refused h x) =
-            absurd (h (sym (standing-none (ready (expanded key) nonce ad (rounds-small key) short r 1 (r .in-time)))))
+            absurd (h (sym (standing-none (ready (expanded key) nonce ad (rounds-are key) short r 1 (r .in-time)))))
         by (FinishView.done z x) =
             let y = x ∙ ap finished (r .is-held) in
             rw (y, ← seal-done suite key nonce ad message (alike ∙ e), ← sealed-i suite key nonce ad message mine)
@@ -130,7 +131,7 @@ refused-pieces-leave-no-trace suite key nonce ad begun p steps f mine b l a = by
         (one-refusal suite key nonce ad [] begun f other (subst (λ (q : Pieces). FinishAllows q f) (still .at-rest) a)
         (alike suite key nonce ad [] mine (lit≤ tt) ∙ sym number))
     by (BeginView.done e short h) =
-        let ran = runs (expanded key) nonce ad (rounds-small key) short steps [] begun p (start (expanded key) nonce ad begun h) l in
+        let ran = runs (expanded key) nonce ad (rounds-are key) short steps [] begun p (start (expanded key) nonce ad begun h) l in
         let text : takenLeft steps ≡ crypted (enciphered (expanded key)) (expanded key) nonce (takenGiven steps) = ran .text in
         rw text (one-call suite key nonce ad (takenGiven steps) mine (ran .running .within) e p f (ran .running) a short)
 
@@ -142,7 +143,7 @@ pieces-make-the-same-calls suite key nonce ad begun p steps b z l = by (begin-vi
         → dataRows (expanded key) ad ++ (takenRows begun steps ++ (finishRow p ∷ [])) ≡ sealed suite key nonce ad (takenGiven steps) .rows
     by (BeginView.refused h e) = absurd (h (sym (ap (λ (q : Pieces). q .number) e) ∙ z))
     by (BeginView.done e short h) =
-        let ran = runs (expanded key) nonce ad (rounds-small key) short steps [] begun p (start (expanded key) nonce ad begun h) l in
+        let ran = runs (expanded key) nonce ad (rounds-are key) short steps [] begun p (start (expanded key) nonce ad begun h) l in
         let rows : takenRows begun steps ≡ cryptRows (enciphered (expanded key)) (expanded key) nonce (takenGiven steps) = ran .rows in
         let last : finishRow p ≡ finishRow (held (expanded key) nonce ad (takenGiven steps) 0) = ap finishRow (ran .running .is-held) in
         rw (← sealed-i suite key nonce ad (takenGiven steps) (begin-passed _ _ _ _ e .0), rows, last)
@@ -153,11 +154,16 @@ holds-what-was-taken suite key nonce ad begun p steps b z l = by (begin-view b)
     by : BeginView suite key nonce ad begun → Holds key nonce ad (takenGiven steps) p
     by (BeginView.refused h e) = absurd (h (sym (ap (λ (q : Pieces). q .number) e) ∙ z))
     by (BeginView.done e short h) =
-        let r = runs (expanded key) nonce ad (rounds-small key) short steps [] begun p (start (expanded key) nonce ad begun h) l .running in
-        let g = ready (expanded key) nonce ad (rounds-small key) short r 1 (r .in-time) in
+        let r = runs (expanded key) nonce ad (rounds-are key) short steps [] begun p (start (expanded key) nonce ad begun h) l .running in
+        let g = ready (expanded key) nonce ad (rounds-are key) short r 1 (r .in-time) in
         record {
           is-held = r .is-held ∙ ap (held (expanded key) nonce ad (takenGiven steps)) (sym (ap (λ (q : Pieces). q .stage) (r .is-held)));
-          ready = record { in-time = g .staged; few-rounds = g .few-rounds; few-bytes = g .few-bytes; few-rows = g .few-rows };
+          ready = record {
+            in-time = g .staged;
+            few-bytes = g .within .few-bytes;
+            few-rows = g .within .few-rows;
+            of-a-key = g .within .of-a-key;
+          };
         }
 
 -- ---- allowed cuttings
@@ -168,7 +174,7 @@ all-taken (s ∷ steps) n =
     let rest = all-taken steps (n .1) in
     (given-added s steps (n .0) ∙ ap (_++_ (s .piece)) (rest .0), left-added s steps (n .0) ∙ ap (_++_ (s .outcome .piece)) (rest .1))
 
-module _ (k : Subkeys) (nonce ad : List ℕ) (small : k .rounds ≤ 16) (short : length ad ≤ 1048576) where
+module _ (k : Subkeys) (nonce ad : List ℕ) (keyed : (k .rounds ≡ 14) ⊎ (k .rounds ≡ 16)) (short : length ad ≤ 1048576) where
   -- an open state takes a piece that fits
   fitting : (message piece : List ℕ) (p : Pieces) (outcome : Taking) (r : Running k nonce ad message p) → r .stage ≡ 0
       → length message + length piece ≤ 1048576 → TakeAllows p piece outcome → outcome .answer .number ≡ 0
@@ -179,7 +185,7 @@ module _ (k : Subkeys) (nonce ad : List ℕ) (small : k .rounds ≤ 16) (short :
 
       nothing : takeRefusal p (length piece) ≡ 0
       nothing =
-          sym (taken p (length piece) (sym (standing-none (ready k nonce ad small short r 0 (omega (arith, z))))) (omega (arith, total, h)))
+          sym (taken p (length piece) (sym (standing-none (ready k nonce ad keyed short r 0 (omega (arith, z))))) (omega (arith, total, h)))
 
       by : TakeView p piece outcome → outcome .answer .number ≡ 0
       by (TakeView.refused n e) = absurd (n nothing)
@@ -193,7 +199,7 @@ module _ (k : Subkeys) (nonce ad : List ℕ) (small : k .rounds ≤ 16) (short :
   allowed-taken (s ∷ t ∷ steps) message p q r z w h l =
       let e = length-append (s .piece) (given (t ∷ steps)) in
       let n = fitting message (s .piece) p (s .outcome) r z (omega (arith, h, e)) (l .0) in
-      by n (step k nonce ad small short r (l .0))
+      by n (step k nonce ad keyed short r (l .0))
       (λ r′ z′. allowed-taken (t ∷ steps) (message ++ s .piece) (s .outcome .answer .pieces) q r′ z′ (w .1)
       (let a = length-append message (s .piece) in omega (arith, h, e, a)) (l .1))
     where
@@ -223,7 +229,7 @@ pieces-are-one-call suite key nonce ad begun p steps f mine b l a c = by (begin-
         )
     by (BeginView.done e short h) =
         let first = start (expanded key) nonce ad begun h in
-        let numbers = allowed-taken (expanded key) nonce ad (rounds-small key) short steps [] begun p first refl (c .whole-but-last)
+        let numbers = allowed-taken (expanded key) nonce ad (rounds-are key) short steps [] begun p first refl (c .whole-but-last)
         (omega (arith, c .within)) l in
         let same = all-taken steps numbers in
         let as-call = alike suite key nonce ad (given steps) mine (omega (arith, c .within)) ∙ e in

@@ -14,7 +14,7 @@ use Rattle.suites.specs.Suites.{refusal}
 use Rattle.pieces.specs.declared.Pieces.{Pieces}
 use Rattle.pieces.specs.declared.Finished.{Finished}
 use Rattle.pieces.specs.ByPieces.{beginRefusal, sound, standing, takeRefusal, Taking, finished, BeginAllows, TakeAllows, FinishAllows}
-use Rattle.pieces.proofs.Standing.{stands, standing-none, stands-first, too-long, taken}
+use Rattle.pieces.proofs.Standing.{bounds, bounded, past, none, unsound, stands, stands-first, too-long, taken}
 use Rattle.promises.specs.Refusals.{Fault}
 use Rattle.promises.specs.ByPieces.{
   BeginFault,
@@ -82,17 +82,17 @@ begins-in-order suite key nonce ad begun a = by (begin-view a)
 module _ (p : Pieces) (last : ℕ) where
   stands-ready : p .number ≡ 0 → Ready last p → 0 ≡ standing p last
   stands-ready z r =
-      standing-none (record { begun = z; staged = r .in-time; few-rounds = r .few-rounds; few-bytes = r .few-bytes; few-rows = r .few-rows })
+      none p last z (r .in-time) (bounded {p = p} (record { few-bytes = r .few-bytes; few-rows = r .few-rows; of-a-key = r .of-a-key }))
 
   stands-not : p .number ≡ 0 → (Ready last p → ⊥) → standing p last ≡ 8
-  unfolding standing
-  stands-not z h = rw (eq-eqb _ _ z) (by (pick (leb (p .stage) last) (sound p) false) refl)
+  stands-not z h = by (leb (p .stage) last) (sound p) refl refl
     where
-      by : (b : Bool) → pick (leb (p .stage) last) (sound p) false ≡ b → _≡_ {A = ℕ} (pick b 0 8) 8
-      by false e = refl
-      by true e =
-          let s = stands p last (rw (eq-eqb _ _ z, e)) in
-          absurd (h (record { in-time = s .staged; few-rounds = s .few-rounds; few-bytes = s .few-bytes; few-rows = s .few-rows }))
+      by : (a b : Bool) → leb (p .stage) last ≡ a → sound p ≡ b → standing p last ≡ 8
+      by false b e s = sym (past p last z (leb-false _ _ e))
+      by true false e s = sym (unsound p last z (leb-true _ _ e) s)
+      by true true e s =
+          let g = bounds p s in
+          absurd (h (record { in-time = leb-true _ _ e; few-bytes = g .few-bytes; few-rows = g .few-rows; of-a-key = g .of-a-key }))
 
 refused-with : {x n : ℕ} → x ≡ suc n → x ≡ 0 → ⊥
 refused-with {x} {n} e z = suc-ne-zero n (sym e ∙ z)

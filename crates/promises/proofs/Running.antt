@@ -3,6 +3,7 @@
 -- Assumes nothing.
 use mathlib.Core.Path.{_≡_, refl, sym, ap, _∙_, subst}
 use mathlib.Core.Bool.{Bool, true, false}
+use mathlib.Core.Logic.{_⊎_}
 use mathlib.Core.List.{List, [], _∷_, _++_, append-assoc, append-nil}
 use Prim.Native.Nat.{ℕ, _+_, _/_, _%_, _≤_}
 use native.Mathlib.Nat.{suc-ne-zero}
@@ -84,7 +85,7 @@ module _ (s : Step) (steps : List Step) where
   pub left-added : s .outcome .answer .number ≡ 0 → takenLeft (s ∷ steps) ≡ s .outcome .piece ++ takenLeft steps
   left-added e = rw (eq-eqb _ _ e)
 
-module _ (k : Subkeys) (nonce ad : List ℕ) (small : k .rounds ≤ 16) (short : length ad ≤ 1048576) where
+module _ (k : Subkeys) (nonce ad : List ℕ) (keyed : (k .rounds ≡ 14) ⊎ (k .rounds ≡ 16)) (short : length ad ≤ 1048576) where
   all-rows : (message : List ℕ) → length (dataRows k ad ++ cryptRows (enciphered k) k nonce message) ≡ (length ad + 15) / 16 + (length message + 15) / 16
   all-rows message = rw (length-append, auth-count k 32 96 ad, crypt-count (enciphered k) k nonce message)
 
@@ -95,9 +96,7 @@ module _ (k : Subkeys) (nonce ad : List ℕ) (small : k .rounds ≤ 16) (short :
       (record {
         begun = refl;
         staged = h;
-        few-rounds = small;
-        few-bytes = r .within;
-        few-rows = omega (arith, all-rows message, short, r .within);
+        within = record { few-bytes = r .within; few-rows = omega (arith, all-rows message, short, r .within); of-a-key = keyed };
       })
 
   pub step : {message piece : List ℕ} {p : Pieces} {outcome : Taking} → Running k nonce ad message p → TakeAllows p piece outcome

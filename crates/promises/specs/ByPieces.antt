@@ -2,6 +2,7 @@
 -- `BeginAllows`, `TakeAllows` and `FinishAllows` are those contracts (crates/pieces/specs/ByPieces). The proofs are in proofs/.
 -- Assumes nothing.
 use mathlib.Core.Path.{_≡_}
+use mathlib.Core.Logic.{_⊎_}
 use mathlib.Core.List.{List, [], _∷_, _++_}
 use Prim.Native.Nat.{ℕ, _+_, _%_, _≤_, _<_}
 use lib.Dec.{eqb}
@@ -109,12 +110,12 @@ pub record BeginsInOrder (suite : ℕ) (key nonce ad : List ℕ) (begun : Pieces
   pub refused : (begun .number ≡ 0 → ⊥) → begun ≡ void (begun .number)
   pub done : begun .number ≡ 0 → begun ≡ held (expanded key) nonce ad [] 0
 
--- what a state has to be for a call that this stage is the last for; the other bounds hold of every state that a call gives
+-- what a state has to be for a call that this stage is the last for; all but the stage holds of every state that calls give
 pub record Ready (last : ℕ) (p : Pieces) : Type 0 where
   pub in-time : p .stage ≤ last
-  pub few-rounds : p .keys .rounds ≤ 16
   pub few-bytes : p .total ≤ 1048576
   pub few-rows : p .count .rows ≤ 131072
+  pub of-a-key : (p .keys .rounds ≡ 14) ⊎ (p .keys .rounds ≡ 16)
 
 -- begin's number first of all, then 8, then 5; refused: state and piece as they stood
 pub record TakesInOrder (p : Pieces) (piece : List ℕ) (outcome : Taking) : Type 0 where

@@ -2,11 +2,12 @@
 -- Assumes nothing.
 use mathlib.Core.Path.{_≡_, refl, ap, ap₂, _∙_}
 use mathlib.Core.Bool.{Bool, true, false}
+use mathlib.Core.Logic.{_⊎_, inl, inr, ⊎-elim}
 use mathlib.Core.List.{List, _++_}
 use Prim.Native.Nat.{ℕ, zero, suc, _+_, _-_, _*_, _≤_, _<_}
 use native.Mathlib.Numerals.{add-one}
 use native.Mathlib.Omega.{arith}
-use lib.Dec.{eqb, lit≤}
+use lib.Dec.{eqb}
 use lib.ListN.{length, getD, take, drop, replicate, length-drop}
 use lib.Seq.{take-all}
 use borrow.Author.Tests.{eq-eqb, ne-eqb}
@@ -131,13 +132,16 @@ expanded-32 key e =
     let rest = take-all 16 (drop 16 key) (simp length-drop (omega arith)) in
     expanded-is key (λ i. tk3 i (take 16 key) ⊕ tk2 i (take 16 (drop 16 key)) ⊕ constantBlock i) 16 (rw long) (λ i. rw (long, rest))
 
-pub rounds-small : (key : List ℕ) → expanded key .rounds ≤ 16
+pub rounds-are : (key : List ℕ) → (expanded key .rounds ≡ 14) ⊎ (expanded key .rounds ≡ 16)
 unfolding expanded
-rounds-small key = either (eqb (length key) 16)
+rounds-are key = either (eqb (length key) 16)
   where
-    either : (b : Bool) → pick b 14 16 ≤ 16
-    either true = lit≤ tt
-    either false = lit≤ tt
+    either : (b : Bool) → (_≡_ {A = ℕ} (pick b 14 16) 14) ⊎ (_≡_ {A = ℕ} (pick b 14 16) 16)
+    either true = inl refl
+    either false = inr refl
+
+pub rounds-small : (key : List ℕ) → expanded key .rounds ≤ 16
+rounds-small key = ⊎-elim (λ e. omega (arith, e)) (λ e. omega (arith, e)) (rounds-are key)
 
 -- ---- the round keys
 

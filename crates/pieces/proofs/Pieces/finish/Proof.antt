@@ -5,7 +5,7 @@ use native.Mathlib.Omega.{arith}
 use borrow.Author.Needs.{needs}
 use Rattle.octets.specs.Octets.{zeroBlock}
 use Rattle.pieces.specs.ByPieces.{finished}
-use Rattle.pieces.proofs.Standing.{stands}
+use Rattle.pieces.proofs.Standing.{few-rounds, stands}
 use Rattle.pieces.proofs.Answers.{finish-refused, finish-done}
 use Rattle.pieces.proofs.Pieces.finish.Statement.{statement}
 use Rattle.pieces.proofs.Pieces.finish.Tie as tie
@@ -22,7 +22,7 @@ slice-aggregate-tag c = search needs
 
 tag-requires : tie.Need-tag-requires
 tag-requires c κs = let g = stands _ _ (sym (c .before .before .before .before .before .standing .ensures) ∙ c .before .before .before .before .if1 .left) in
-    (g .few-rounds, search needs, omega (arith, g .few-bytes), omega (arith, g .few-rows))
+    (few-rounds g, search needs, omega (arith, g .within .few-bytes), omega (arith, g .within .few-rows))
 
 returns-2 : tie.Need-returns-2
 unfolding finished

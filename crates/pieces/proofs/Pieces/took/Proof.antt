@@ -2,7 +2,7 @@
 -- Assumes nothing.
 use native.Mathlib.Omega.{arith}
 use borrow.Author.Needs.{needs}
-use Rattle.pieces.proofs.Standing.{stands, take-passed}
+use Rattle.pieces.proofs.Standing.{few-rounds, stands, take-passed}
 use Rattle.pieces.proofs.Answers.{took-is, text-is}
 use Rattle.pieces.proofs.Pieces.took.Statement.{statement}
 use Rattle.pieces.proofs.Pieces.took.Tie as tie
@@ -16,7 +16,7 @@ slice-aggregate-crypt-message c = search needs
 crypt-message-requires : tie.Need-crypt-message-requires
 crypt-message-requires c κs = let t = take-passed _ _ (c .before .before .before .before .before .before .before .before .pre) in
     let g = stands _ _ (t .0) in
-    (g .few-rounds, search needs, omega (arith, g .few-bytes, t .1), omega (arith, g .few-rows, t .1))
+    (few-rounds g, search needs, omega (arith, g .within .few-bytes, t .1), omega (arith, g .within .few-rows, t .1))
 
 add-self : tie.Need-add-self
 add-self c = let t = take-passed _ _ (c .before .before .before .before .before .before .before .before .before .before .before .before .pre) in
