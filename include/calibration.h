@@ -24,7 +24,7 @@ enum {
     DEOXYS_II_256 = 4  /* key 32 bytes, nonce 15 bytes */
 };
 
-/* The most bytes of data, and the most bytes of message, in one call. */
+/* The most bytes of data, and the most bytes of a message. */
 #define DEOXYS_LIMIT ((size_t)1048576)
 
 #define DEOXYS_TAG_LENGTH ((size_t)16)
@@ -99,7 +99,8 @@ struct deoxys_opened deoxys_open(uint8_t suite,
  *   begin's  in the state: 1 where the suite isn't 1 or 2; 2 to 4 as above.
  *            Every later call with this state answers with it
  *   8        a piece after one that was no multiple of 16 bytes; a piece or a
- *            finish after a finish; any call with a state that no call gave
+ *            finish after a finish; any call with a state whose rounds, total
+ *            or rows no call gives, such as one that was wiped
  *   5        a piece that would bring the message over DEOXYS_LIMIT
  *
  * A refused call hands back the state as it stood and leaves the piece as it

@@ -436,13 +436,15 @@ static void refuse_after_the_last(const struct suite *suite)
 static void refuse_forged_states(const struct suite *suite)
 {
     struct deoxys_pieces rounds = begin_message(suite), total = rounds, rows = rounds;
-    struct deoxys_pieces stage = rounds, number = rounds;
+    struct deoxys_pieces stage = rounds, number = rounds, wiped = rounds;
+    memset(&wiped, 0, sizeof wiped);
     rounds.keys.rounds = 17;
     total.total = SIZE_MAX;
     rows.rows = SIZE_MAX;
     stage.stage = 255;
     number.number = 200;
     number.stage = 255;
+    refuse_every_call(wiped, DEOXYS_NO_MORE, "a state that was wiped");
     refuse_every_call(rounds, DEOXYS_NO_MORE, "a state of 17 rounds");
     refuse_every_call(total, DEOXYS_NO_MORE, "a state of as many bytes as there are");
     refuse_every_call(rows, DEOXYS_NO_MORE, "a state of as many rows as there are");

@@ -212,11 +212,11 @@ fn the_refusals_of_a_begin() {
     }
 }
 
-/// States with one field greater than any that a call gives.
+/// A state that was wiped, and states with one field as no call gives it.
 fn forged(state: ffi::Pieces) -> Vec<ffi::Pieces> {
     let with_rounds = |rounds| ffi::Pieces { keys: ffi::Subkeys { rounds, ..state.keys }, ..state };
-    let mut forged = Vec::new();
-    forged.extend([17, usize::MAX].map(with_rounds));
+    let mut forged = vec![void(0)];
+    forged.extend([0, 13, 15, 17, usize::MAX].map(with_rounds));
     forged.extend([LIMIT + 1, usize::MAX].map(|total| ffi::Pieces { total, ..state }));
     forged.extend([131_073, usize::MAX].map(|rows| ffi::Pieces { rows, ..state }));
     forged.extend([3, 255].map(|stage| ffi::Pieces { stage, ..state }));
