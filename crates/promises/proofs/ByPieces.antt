@@ -34,6 +34,8 @@ use Rattle.promises.specs.ByPieces.{
   Pieces-are-one-call,
   Refused-pieces-leave-no-trace,
   Pieces-make-the-same-calls,
+  AnsweredAlike,
+  Refused-begin-answers-all,
   Holds,
   Holds-what-was-taken,
 }
@@ -111,6 +113,20 @@ one-refusal suite key nonce ad message p f h a e = by (finish-view a)
     by (FinishView.refused n x) =
         rw (x, ← seal-refused suite key nonce ad message (λ z. h (sym e ∙ z)))
         (record { ciphertext = refl; number = no-standing p h 1 ∙ sym e; tag = refl; rows = refl })
+
+pub refused-begin-answers-all : Refused-begin-answers-all
+refused-begin-answers-all suite key nonce ad begun p steps f b h l a = by (finish-view (subst (λ (q : Pieces). FinishAllows q f) (still .at-rest) a))
+  where
+    still : Fixed begun steps p
+    still = fixed begun h steps p l
+
+    by : FinishView begun f → AnsweredAlike begun steps f
+    by (FinishView.done z x) = absurd (h (begin-first begun 1 h ∙ z))
+    by (FinishView.refused n x) = record {
+      numbered = still .numbered;
+      as-given = still .as-given;
+      finish = rw (x, no-standing begun h 1);
+    }
 
 -- ---- any pieces
 

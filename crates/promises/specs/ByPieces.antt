@@ -149,6 +149,17 @@ abbrev pub Finish-is-the-last : Type 0
 Finish-is-the-last = (p : Pieces) (f f′ : Finished) (piece : List ℕ) (outcome : Taking) → FinishAllows p f → f .number ≡ 0
     → ((TakeAllows (f .pieces) piece outcome → outcome .answer .number ≡ 8) × (FinishAllows (f .pieces) f′ → f′ .number ≡ 8))
 
+-- A begin that refused, also one of the suites 3 and 4: its number answers every piece, which stays as it was, and the finish, with zero tag
+-- and no rows.
+pub record AnsweredAlike (begun : Pieces) (steps : List Step) (f : Finished) : Type 0 where
+  pub numbered : Numbered (begun .number) steps
+  pub as-given : left steps ≡ given steps
+  pub finish : f ≡ record { pieces = begun; number = begun .number; tag = zeroBlock; rows = 0 }
+
+abbrev pub Refused-begin-answers-all : Type 0
+Refused-begin-answers-all = (suite : ℕ) (key nonce ad : List ℕ) (begun p : Pieces) (steps : List Step) (f : Finished)
+    → BeginAllows suite key nonce ad begun → (begun .number ≡ 0 → ⊥) → Leads begun steps p → FinishAllows p f → AnsweredAlike begun steps f
+
 -- ---- states
 
 -- Every state that calls give is what the pieces taken so far come to, and its rounds, bytes and rows are within their bounds.
