@@ -1,5 +1,7 @@
 // Lines `stage SUITE KEY NONCE DATA NUMBER SCRIPT..`: lengths on bytes that follow the pattern, and the number of begin. The other answers are
 // those of the single call over the bytes that are to be taken.
+ghost use Prim.Native.Nat.{_≤_, _+_};
+ghost use lib.ListN.{length};
 use crate::numbers;
 use crate::script::Script;
 use crate::steps;
@@ -12,6 +14,9 @@ use replay::tally::Tally;
 const KEY: usize = 0;
 
 const NONCE: usize = 40;
+
+// Above the greatest total, with bytes that no call may touch.
+const ROOM: usize = 1049600;
 
 struct Attempt {
     suite: usize,
@@ -50,7 +55,7 @@ fn part(s: &[u8], from: usize, n: usize) -> &[u8] {
     &s[..0]
 }
 
-fn begun(a: Attempt, line: usize, tally: Tally, source: &[u8]) -> Run {
+fn begun(a: Attempt, line: usize, tally: Tally, source: &[u8; ROOM]) -> Run {
     let key = part(source, KEY, a.key);
     let nonce = part(source, NONCE, a.nonce);
     let state = pieces::begin(numbers::byte(a.suite), key, nonce, part(source, 0, a.data));
@@ -70,56 +75,56 @@ fn seal(a: Attempt, source: &[u8], message: &mut [u8]) -> deoxys::Sealed {
     )
 }
 
-// The single call over the bytes that the script takes, which leaves the room as it is in the end. Where the room has not so many there is none,
-// and taking them tells it.
-fn single(a: Attempt, bytes: usize, line: usize, source: &[u8], sealed: &mut [u8]) -> Wanted {
-    pattern::fill(sealed, pattern::BUFFER);
-    if steps::BEFORE <= sealed.len() {
-        if bytes <= sealed.len() - steps::BEFORE {
-            let end = steps::BEFORE + bytes;
-            let answer = seal(a, source, &mut sealed[steps::BEFORE..end]);
-            let tag = answer.tag;
-            return Wanted {
-                line,
-                tag,
-                rows: answer.rows,
-            };
-        }
-    }
+// The single call over the bytes that the script takes, which leaves the room as it is in the end.
+fn single(a: Attempt, bytes: usize, line: usize, source: &[u8], sealed: &mut [u8]) -> Wanted
+    requires { ⌜ 16 + bytes ≤ length (now sealed) ⌝ }
+{
+    let end = steps::BEFORE + bytes;
+    let answer = seal(a, source, &mut sealed[steps::BEFORE..end]);
+    let tag = answer.tag;
     Wanted {
         line,
-        tag: [0u8; 16],
-        rows: 0,
+        tag,
+        rows: answer.rows,
     }
 }
 
 fn scripted(
     a: Attempt,
     script: Script,
+    run: Run,
     line: usize,
-    tally: Tally,
-    source: &[u8],
-    sealed: &mut [u8],
-    room: &mut [u8],
-) -> Tally {
-    let wanted = single(a, script.taken, line, source, sealed);
-    let run = begun(a, line, tally, source);
-    steps::replayed(script, run, wanted, source, sealed, room)
+    plain: &[u8; ROOM],
+    sealed: &mut [u8; ROOM],
+    room: &mut [u8; ROOM],
+) -> Tally
+    requires { ⌜ script .taken ≤ 1049584 ⌝ }
+{
+    let wanted = single(a, script.taken, line, plain, sealed);
+    steps::replayed(script, run, wanted, plain, sealed, room)
 }
 
-pub fn replayed(
-    text: &[u8],
-    script: Script,
-    line: usize,
-    tally: Tally,
-    source: &[u8],
-    sealed: &mut [u8],
-    room: &mut [u8],
-) -> Tally {
-    let a = read(text);
-    if !good(a) {
-        return tally.with_bad_line(line);
-    }
+fn fill(room: &mut [u8; ROOM]) {
     pattern::fill(room, pattern::BUFFER);
-    scripted(a, script, line, tally, source, sealed, room)
+}
+
+fn in_rooms(a: Attempt, script: Script, line: usize, tally: Tally) -> Tally
+    requires { ⌜ script .taken ≤ 1049584 ⌝ }
+{
+    let mut plain = [0u8; ROOM];
+    fill(&mut plain);
+    let mut sealed = plain;
+    let mut room = plain;
+    let run = begun(a, line, tally, &plain);
+    scripted(a, script, run, line, &plain, &mut sealed, &mut room)
+}
+
+pub fn replayed(text: &[u8], script: Script, line: usize, tally: Tally) -> Tally {
+    let a = read(text);
+    if good(a) {
+        if script.taken <= ROOM - steps::BEFORE {
+            return in_rooms(a, script, line, tally);
+        }
+    }
+    tally.with_bad_line(line)
 }

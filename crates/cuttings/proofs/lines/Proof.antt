@@ -1,18 +1,16 @@
--- `cuttings::lines` is safe and ends: a line a turn, and both rooms as long as they were.
+-- `cuttings::lines` is safe and ends: a line a turn.
 -- Assumes nothing.
-use mathlib.Core.Path.{_≡_}
 use Prim.Native.Nat.{_-_, _≤_}
 use native.Mathlib.Omega.{arith}
-use lib.ListN.{length}
 use borrow.Author.Needs.{needs}
 use Rattle.cuttings.proofs.lines.Statement.{statement}
 use Rattle.cuttings.proofs.lines.Tie as tie
 
 abbrev Inv-loop : tie.InvT-loop
-Inv-loop text source sealed₀ room₀ tally₀ i₀ i-end sealed room tally i = (i ≤ i-end) × (length sealed ≡ length sealed₀) × (length room ≡ length room₀)
+Inv-loop text tally₀ i₀ i-end tally i = i ≤ i-end
 
 abbrev μ-loop : tie.MeasureT-loop
-μ-loop text source sealed₀ room₀ tally₀ i₀ i-end sealed room tally i = i-end - i
+μ-loop text tally₀ i₀ i-end tally i = i-end - i
 
 new-requires : tie.Need-new-requires Inv-loop μ-loop
 new-requires c κs = search needs
@@ -44,12 +42,6 @@ loop-again c = search needs
 with-a-case-requires : tie.Need-with-a-case-requires Inv-loop μ-loop
 with-a-case-requires c κs = search needs
 
-same-length : tie.Need-same-length Inv-loop μ-loop
-same-length c = search needs
-
-same-length-2 : tie.Need-same-length-2 Inv-loop μ-loop
-same-length-2 c = search needs
-
 returns : tie.Need-returns Inv-loop μ-loop
 returns c = search needs
 
@@ -69,6 +61,4 @@ lines-spec =
     loop-less
     loop-again
     with-a-case-requires
-    same-length
-    same-length-2
     returns)

