@@ -2,7 +2,6 @@
 use crate::script;
 use crate::script::Script;
 use pieces::Pieces;
-use replay::pattern;
 use replay::tally::Seen;
 use replay::tally::Tally;
 use replay::tally::What;
@@ -32,7 +31,7 @@ pub struct Run {
     pub tally: Tally,
 }
 
-// Arrays lent as such ask no proof of their length.
+// Arrays by value: a lent field makes the check of whoever lends it longer.
 fn same_bytes(a: [u8; 272], b: [u8; 272]) -> bool {
     check::same(&a, &b)
 }
