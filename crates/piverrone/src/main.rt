@@ -1,4 +1,4 @@
-// Seals and opens files, and prints the risk tables of a sealing and an opening.
+// Seals and opens files, seals them by pieces, and prints the risk tables of a sealing and an opening.
 //
 // No program has an exit status here: `tools/piverrone` makes one of what is written. What was done is told on
 // standard output, and what was not on standard error. The file OUT is written only where the answer is 0.
@@ -55,12 +55,14 @@ fn with_files(command: u8) {
 fn work(command: u8, suite: u8, key: &[u8], nonce: &[u8], ad: &[u8]) {
     if command == words::PIECES {
         by_pieces::seal(suite, key, nonce, ad);
+    } else if command == words::OPEN {
+        seal_or_open(true, suite, key, nonce, ad);
     } else {
-        seal_or_open(command == words::OPEN, suite, key, nonce, ad);
+        seal_or_open(false, suite, key, nonce, ad);
     }
 }
 
-// Reads the whole text.
+// Reads the whole text. It is called in two places: else the compiler puts its space in the frame of `pieces` too.
 fn seal_or_open(opening: bool, suite: u8, key: &[u8], nonce: &[u8], ad: &[u8]) {
     let mut text = files::large_space();
     let text_read = files::read_named(6, b"IN", &mut text);
