@@ -14,7 +14,7 @@ use pieces::Pieces;
 // A multiple of 16, so that only IN's end can make a piece the last.
 const PIECE_BYTES: usize = 4096;
 
-// So many pieces are a message at the limit. The one after them is empty, or the message is too long.
+// So many pieces are a message at the limit. The one after them is empty, or refused as too long.
 const MOST_PIECES: usize = 256;
 
 // The state after a piece, whether OUT has the piece, and whether IN ended with it.
@@ -123,7 +123,19 @@ fn seal_beside(file: In, out: Out, begun: Pieces) -> Sealed
     }
 }
 
-// Nothing is opened or made where the begin is refused.
+// Puts OUT in its place and tells the rows, or leaves what stood there.
+fn seal_over(file: In, out: Out, begun: Pieces)
+    requires { ⌜ Counts (file .end) (file .path) ⌝ }
+    requires { ⌜ Counts (out .end) (out .path) ⌝ }
+    requires { ⌜ Counts (out .«beside_end») (out .beside) ⌝ }
+{
+    let sealed = seal_beside(file, out, begun);
+    if files::end(out, sealed.whole) {
+        words::done(b"sealed, ", sealed.rows);
+    }
+}
+
+// Seals IN as OUT. Where the begin is refused, nothing is opened or made.
 pub fn seal(suite: u8, key: &[u8], nonce: &[u8], ad: &[u8]) {
     let begun = pieces::begin(suite, key, nonce, ad);
     if begun.number != 0 {
@@ -139,15 +151,4 @@ pub fn seal(suite: u8, key: &[u8], nonce: &[u8], ad: &[u8]) {
         seal_over(file, out, begun);
     }
     libc::close(file.fd);
-}
-
-fn seal_over(file: In, out: Out, begun: Pieces)
-    requires { ⌜ Counts (file .end) (file .path) ⌝ }
-    requires { ⌜ Counts (out .end) (out .path) ⌝ }
-    requires { ⌜ Counts (out .«beside_end») (out .beside) ⌝ }
-{
-    let sealed = seal_beside(file, out, begun);
-    if files::end(out, sealed.whole) {
-        words::done(b"sealed, ", sealed.rows);
-    }
 }

@@ -28,7 +28,7 @@ pub fn command(word: &[u8]) -> u8 {
     UNKNOWN
 }
 
-// Whether the command takes a suite and six files.
+// Whether the command takes a suite and five files.
 pub fn is_on_files(command: u8) -> bool {
     command == SEAL || command == OPEN || command == PIECES
 }
