@@ -1,7 +1,8 @@
-// Seals and opens files, and prints the risk tables of a sealing and an opening.
+// Seals and opens files, seals them by pieces, and prints the risk tables of a sealing and an opening.
 //
 // No program has an exit status here: `tools/piverrone` makes one of what is written. What was done is told on
 // standard output, and what was not on standard error. The file OUT is written only where the answer is 0.
+mod by_pieces;
 mod files;
 mod numbers;
 mod parcel;
@@ -18,50 +19,61 @@ fn main() {
     let n = os::arg(1, &mut space);
     let command = words::command(&space[..n]);
     let count = os::arg_count();
-    if command == words::SEAL && count == 8 {
-        seal_or_open(false);
-    } else if command == words::OPEN && count == 8 {
-        seal_or_open(true);
-    } else if command == words::ROWS && count == 5 {
+    if command == words::ROWS && count == 5 {
         rows();
+    } else if words::is_on_files(command) && count == 8 {
+        with_files(command);
     } else {
         words::usage();
     }
 }
 
-// Reads the key, the nonce, the data and the text, and goes on with what they hold.
-fn seal_or_open(opening: bool) {
+// Reads the key, the nonce and the data, and goes on with what they hold.
+fn with_files(command: u8) {
     let mut key = [0u8; KEY_SPACE];
     let mut nonce = [0u8; NONCE_SPACE];
     let mut ad = files::large_space();
-    let mut text = files::large_space();
     let key_read = files::read_named(3, b"KEYFILE", &mut key);
     let nonce_read = files::read_named(4, b"NONCEFILE", &mut nonce);
     let ad_read = files::read_named(5, b"DATAFILE", &mut ad);
-    let text_read = files::read_named(6, b"IN", &mut text);
-    if !key_read.whole || !nonce_read.whole || !ad_read.whole || !text_read.whole {
+    if !key_read.whole || !nonce_read.whole || !ad_read.whole {
         return;
     }
     let key_end = key_read.count;
     let nonce_end = nonce_read.count;
     let ad_end = ad_read.count;
-    let text_end = text_read.count;
     let suite = numbers::suite_named(2);
     work(
-        opening,
+        command,
         suite,
         &key[..key_end],
         &nonce[..nonce_end],
         &ad[..ad_end],
-        &mut text[..text_end],
     );
 }
 
-fn work(opening: bool, suite: u8, key: &[u8], nonce: &[u8], ad: &[u8], text: &mut [u8]) {
-    if opening {
-        open(suite, key, nonce, ad, text);
+fn work(command: u8, suite: u8, key: &[u8], nonce: &[u8], ad: &[u8]) {
+    if command == words::PIECES {
+        by_pieces::seal(suite, key, nonce, ad);
+    } else if command == words::OPEN {
+        seal_or_open(true, suite, key, nonce, ad);
     } else {
-        seal(suite, key, nonce, ad, text);
+        seal_or_open(false, suite, key, nonce, ad);
+    }
+}
+
+// Reads the whole text. It is called in two places: else the compiler puts its space in the frame of `pieces` too.
+fn seal_or_open(opening: bool, suite: u8, key: &[u8], nonce: &[u8], ad: &[u8]) {
+    let mut text = files::large_space();
+    let text_read = files::read_named(6, b"IN", &mut text);
+    let end = text_read.count;
+    if !text_read.whole {
+        return;
+    }
+    if opening {
+        open(suite, key, nonce, ad, &mut text[..end]);
+    } else {
+        seal(suite, key, nonce, ad, &mut text[..end]);
     }
 }
 

@@ -10,6 +10,8 @@ pub const OPEN: u8 = 2;
 
 pub const ROWS: u8 = 3;
 
+pub const PIECES: u8 = 4;
+
 pub fn command(word: &[u8]) -> u8 {
     if check::same(word, b"seal") {
         return SEAL;
@@ -20,7 +22,15 @@ pub fn command(word: &[u8]) -> u8 {
     if check::same(word, b"rows") {
         return ROWS;
     }
+    if check::same(word, b"pieces") {
+        return PIECES;
+    }
     UNKNOWN
+}
+
+// Whether the command takes a suite and five files.
+pub fn is_on_files(command: u8) -> bool {
+    command == SEAL || command == OPEN || command == PIECES
 }
 
 fn warn(text: &[u8]) {
@@ -34,6 +44,7 @@ fn say(text: &[u8]) -> bool {
 pub fn usage() {
     warn(b"usage: piverrone seal SUITE KEYFILE NONCEFILE DATAFILE IN OUT\n");
     warn(b"       piverrone open SUITE KEYFILE NONCEFILE DATAFILE IN OUT\n");
+    warn(b"       piverrone pieces SUITE KEYFILE NONCEFILE DATAFILE IN OUT\n");
     warn(b"       piverrone rows SUITE DATA-BYTES MESSAGE-BYTES\n");
     warn(
         b"OUT is written where standard output says sealed or opened. For an exit status run tools/piverrone.\n",
@@ -44,15 +55,22 @@ pub fn usage() {
 pub fn refused(number: u8) {
     warn(b"refused: ");
     io::print_decimal(STDERR_FILENO, number as u64);
+    warn(b", ");
+    reason(number);
+    warn(b"\n");
+}
+
+fn reason(number: u8) {
     match number {
-        1 => warn(b", the suite is not 1 to 4\n"),
-        2 => warn(b", the key's length is not the suite's\n"),
-        3 => warn(b", the nonce's length is not the suite's\n"),
-        4 => warn(b", the data is over 1048576 bytes\n"),
-        5 => warn(b", the message or ciphertext is over 1048576 bytes\n"),
-        6 => warn(b", the tag is not 16 bytes\n"),
-        7 => warn(b", the tag is not the computed one\n"),
-        _ => warn(b", for which this program has no words\n"),
+        1 => warn(b"the suite is not 1 to 4 (by pieces: 1 or 2)"),
+        2 => warn(b"the key's length is not the suite's"),
+        3 => warn(b"the nonce's length is not the suite's"),
+        4 => warn(b"the data is over 1048576 bytes"),
+        5 => warn(b"the message or ciphertext is over 1048576 bytes"),
+        6 => warn(b"the tag is not 16 bytes"),
+        7 => warn(b"the tag is not the computed one"),
+        8 => warn(b"the last piece was taken before"),
+        _ => warn(b"for which this program has no words"),
     }
 }
 
