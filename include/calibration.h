@@ -105,7 +105,9 @@ struct deoxys_opened deoxys_open(uint8_t suite,
  *
  * A refused call hands back the state as it stood and leaves the piece as it
  * was; a refused finish has 16 zero bytes as tag and 0 rows. After a 5 the
- * state still takes a shorter piece.
+ * state still takes a shorter piece. Look at every number: a piece that was
+ * refused is still in clear, and a finish after it may answer 0 for those
+ * that were taken.
  *
  * A state holds key material, a finished one too: wipe it when it is done
  * with. An old copy of a state goes on from where that state stood, so that

@@ -13,7 +13,7 @@ use Rattle.modes.specs.Rows.{enciphered, dataRows, absorbed}
 use Rattle.deoxys_i.specs.DeoxysI.{messageRows, checksumOf, summed, rowsFrom, textFrom}
 use Rattle.pieces.specs.declared.Pieces.{Pieces}
 use Rattle.pieces.specs.declared.Finished.{Finished}
-use Rattle.pieces.specs.ByPieces.{held, void, beginRefusal, beginning, standing, takeRefusal, Taking, pieceText, took, taking, finished, finishing}
+use Rattle.pieces.specs.ByPieces.{held, void, beginRefusal, beginning, stateRefusal, takeRefusal, Taking, pieceText, took, taking, finished, finishing}
 
 module _ (suite : ℕ) (key nonce ad : List ℕ) where
   abbrev number : ℕ
@@ -76,11 +76,11 @@ module _ (p : Pieces) (piece : List ℕ) where
   take-done e = simp (eq-eqb _ _ e)
 
 module _ (p : Pieces) where
-  pub finish-refused : (standing p 1 ≡ 0 → ⊥)
-      → _≡_ {A = Finished} (record { pieces = p; number = standing p 1; tag = zeroBlock; rows = 0 }) (finishing p)
+  pub finish-refused : (stateRefusal p 1 ≡ 0 → ⊥)
+      → _≡_ {A = Finished} (record { pieces = p; number = stateRefusal p 1; tag = zeroBlock; rows = 0 }) (finishing p)
   unfolding finishing
   finish-refused h = simp (ne-eqb _ _ h)
 
-  pub finish-done : standing p 1 ≡ 0 → finished p ≡ finishing p
+  pub finish-done : stateRefusal p 1 ≡ 0 → finished p ≡ finishing p
   unfolding finishing
   finish-done e = simp (eq-eqb _ _ e)

@@ -1,2 +1,2 @@
-pub mod Standing
+pub mod Refusals
 pub mod Answers

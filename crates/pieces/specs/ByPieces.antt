@@ -57,19 +57,20 @@ beginning suite key nonce ad =
 
 -- ---- what refuses a piece and the finish
 
--- what holds of every state that calls gave: no more bytes than the limit, no more rows than so many of data and of message make, and the
--- rounds of an expanded key
+-- what holds of every state that a begin and its pieces gave, before the finish: no more bytes than the limit, no more rows than data and
+-- message at the limit have, 65,536 each, and the rounds of an expanded key
 abbrev pub sound : Pieces → Bool
 sound p =
-    pick (leb (p .total) limit) (pick (leb (p .count .rows) 131072) (pick (eqb (p .keys .rounds) 14) true (eqb (p .keys .rounds) 16)) false) false
+    pick (leb (p .total) limit)
+    (pick (leb (p .count .rows) 131072) (pick (eqb (p .keys .rounds) 14) true (eqb (p .keys .rounds) 16)) false) false
 
--- begin's number first of all; then 8 where the state is past this stage, or can be none that calls gave; or 0
-unfoldable pub standing : Pieces → ℕ → ℕ
-standing p last = pick (eqb (p .number) 0) (pick (pick (leb (p .stage) last) (sound p) false) 0 8) (p .number)
+-- begin's number first of all; then 8 where the state is past this stage, or not sound; or 0
+unfoldable pub stateRefusal : Pieces → ℕ → ℕ
+stateRefusal p last = pick (eqb (p .number) 0) (pick (pick (leb (p .stage) last) (sound p) false) 0 8) (p .number)
 
 -- and then 5 where the total is above the limit
 unfoldable pub takeRefusal : Pieces → ℕ → ℕ
-takeRefusal p bytes = pick (eqb (standing p 0) 0) (pick (ltb limit (p .total + bytes)) 5 0) (standing p 0)
+takeRefusal p bytes = pick (eqb (stateRefusal p 0) 0) (pick (ltb limit (p .total + bytes)) 5 0) (stateRefusal p 0)
 
 -- ---- take a piece
 
@@ -131,7 +132,7 @@ finished p = record {
 -- refused: the state as it stood, 16 zero bytes as tag, no rows
 unfoldable pub finishing : Pieces → Finished
 finishing p =
-    pick (eqb (standing p 1) 0) (finished p) (record { pieces = p; number = standing p 1; tag = zeroBlock; rows = 0 })
+    pick (eqb (stateRefusal p 1) 0) (finished p) (record { pieces = p; number = stateRefusal p 1; tag = zeroBlock; rows = 0 })
 
 -- ---- the contracts of `begin`, `take` and `finish`: an outcome is allowed where it is the definition's
 

@@ -5,7 +5,7 @@ ghost use lib.Dec.{eqb, ltb};
 ghost use lib.ListN.{length};
 ghost use Rattle.octets.specs.Octets.{pick};
 ghost use Rattle.suites.specs.Suites.{limit};
-ghost use Rattle.pieces.specs.ByPieces.{void, beginRefusal, sound, standing, takeRefusal, took, pieceText};
+ghost use Rattle.pieces.specs.ByPieces.{void, beginRefusal, sound, stateRefusal, takeRefusal, took, pieceText};
 ghost use Rattle.pieces.specs.ByPieces.{BeginAllows, TakeAllows, FinishAllows};
 use deoxys_bc::Count;
 use suites::LIMIT;
@@ -144,7 +144,7 @@ fn length_refusal(total: usize, bytes: usize) -> u8
 }
 
 // The first of two numbers that refuses.
-fn first(number: u8, next: u8) -> u8
+fn first_of(number: u8, next: u8) -> u8
     ensures { λ r. ⌜ r ≡ pick (eqb number 0) next number ⌝ }
 {
     if number != 0 {
@@ -154,7 +154,8 @@ fn first(number: u8, next: u8) -> u8
 }
 
 impl Pieces {
-    // What holds of every state that calls gave. C can make any: a wiped one has no rounds, and would leave a message as it is.
+    // What holds of a state that a begin and its pieces gave. C can make any: a wiped one has no rounds, and would leave a message nearly as
+    // it is.
     fn is_sound(self) -> bool
         ensures { λ r. ⌜ r ≡ sound self ⌝ }
     {
@@ -173,9 +174,9 @@ impl Pieces {
         false
     }
 
-    // Begin's number, or 8 past this stage.
-    fn standing(self, last: u8) -> u8
-        ensures { λ r. ⌜ r ≡ standing self last ⌝ }
+    // Begin's number, or 8 past this stage or where the state is not sound.
+    fn state_refusal(self, last: u8) -> u8
+        ensures { λ r. ⌜ r ≡ stateRefusal self last ⌝ }
     {
         if self.number != 0 {
             return self.number;
@@ -193,9 +194,9 @@ impl Pieces {
     fn take_refusal(self, bytes: usize) -> u8
         ensures { λ r. ⌜ r ≡ takeRefusal self bytes ⌝ }
     {
-        let stands = self.standing(OPEN);
-        let fits = length_refusal(self.total, bytes);
-        first(stands, fits)
+        let state = self.state_refusal(OPEN);
+        let length = length_refusal(self.total, bytes);
+        first_of(state, length)
     }
 
     // A piece that nothing refuses. The checksum is of the message, so it comes before the enciphering.
@@ -239,7 +240,7 @@ impl Pieces {
     pub fn finish(mut self) -> Finished
         ensures { λ r. ⌜ FinishAllows self r ⌝ }
     {
-        let number = self.standing(CLOSED);
+        let number = self.state_refusal(CLOSED);
         if number != 0 {
             return Finished {
                 pieces: self,

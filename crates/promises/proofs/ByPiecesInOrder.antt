@@ -3,18 +3,18 @@
 use mathlib.Core.Path.{_≡_, refl, sym, ap, _∙_, subst}
 use mathlib.Core.Bool.{Bool, true, false}
 use mathlib.Core.List.{List, []}
-use Prim.Native.Nat.{ℕ, suc, _≤_, _<_}
+use Prim.Native.Nat.{ℕ, suc, _≤_}
 use native.Mathlib.Nat.{suc-ne-zero}
 use native.Mathlib.Omega.{arith}
 use lib.Dec.{leb, lit≤, lit<}
 use lib.ListN.{length}
-use borrow.Author.Tests.{eq-eqb, ne-eqb, leb-true, leb-false}
+use borrow.Author.Tests.{leb-true, leb-false}
 use Rattle.octets.specs.Octets.{pick, zeroBlock}
 use Rattle.suites.specs.Suites.{refusal}
 use Rattle.pieces.specs.declared.Pieces.{Pieces}
 use Rattle.pieces.specs.declared.Finished.{Finished}
-use Rattle.pieces.specs.ByPieces.{beginRefusal, sound, standing, takeRefusal, Taking, finished, BeginAllows, TakeAllows, FinishAllows}
-use Rattle.pieces.proofs.Standing.{bounds, bounded, past, none, unsound, stands, stands-first, too-long, taken}
+use Rattle.pieces.specs.ByPieces.{beginRefusal, sound, stateRefusal, takeRefusal, Taking, finished, BeginAllows, TakeAllows, FinishAllows}
+use Rattle.pieces.proofs.Refusals.{bounds, bounded, past, none, unsound, stands-first, too-long, taken}
 use Rattle.promises.specs.Refusals.{Fault}
 use Rattle.promises.specs.ByPieces.{
   BeginFault,
@@ -23,8 +23,6 @@ use Rattle.promises.specs.ByPieces.{
   TakesInOrder,
   FinishesInOrder,
   Refused-in-order-by-pieces,
-  Partial-piece-is-the-last,
-  Finish-is-the-last,
   One-outcome-by-pieces,
 }
 use Rattle.promises.proofs.InOrder.{Verdict, ordered, within, by-lengths}
@@ -35,9 +33,8 @@ use Rattle.promises.proofs.PieceViews.{
   finish-view,
   BeginView,
   begin-view,
-  no-standing,
+  no-state,
   no-taking,
-  stage-taken,
 }
 
 -- ---- the numbers in their order
@@ -80,14 +77,14 @@ begins-in-order suite key nonce ad begun a = by (begin-view a)
 
 -- what a state needs beside begin's number
 module _ (p : Pieces) (last : ℕ) where
-  stands-ready : p .number ≡ 0 → Ready last p → 0 ≡ standing p last
+  stands-ready : p .number ≡ 0 → Ready last p → 0 ≡ stateRefusal p last
   stands-ready z r =
       none p last z (r .in-time) (bounded {p = p} (record { few-bytes = r .few-bytes; few-rows = r .few-rows; of-a-key = r .of-a-key }))
 
-  stands-not : p .number ≡ 0 → (Ready last p → ⊥) → standing p last ≡ 8
+  stands-not : p .number ≡ 0 → (Ready last p → ⊥) → stateRefusal p last ≡ 8
   stands-not z h = by (leb (p .stage) last) (sound p) refl refl
     where
-      by : (a b : Bool) → leb (p .stage) last ≡ a → sound p ≡ b → standing p last ≡ 8
+      by : (a b : Bool) → leb (p .stage) last ≡ a → sound p ≡ b → stateRefusal p last ≡ 8
       by false b e s = sym (past p last z (leb-false _ _ e))
       by true false e s = sym (unsound p last z (leb-true _ _ e) s)
       by true true e s =
@@ -123,17 +120,17 @@ finished-0 p = refl
 
 finishes-in-order : (p : Pieces) (f : Finished) → FinishAllows p f → FinishesInOrder p f
 finishes-in-order p f a = record {
-  first-of-all = λ h. number ∙ no-standing p h 1;
+  first-of-all = λ h. number ∙ no-state p h 1;
   then-8 = λ z h. number ∙ stands-not p 1 z h;
   done = λ z r. number ∙ sym (stands-ready p 1 z r);
   refused = λ h. unchanged h (finish-view a);
 }
   where
-    by : FinishView p f → f .number ≡ standing p 1
+    by : FinishView p f → f .number ≡ stateRefusal p 1
     by (FinishView.refused h e) = ap (λ (x : Finished). x .number) e
     by (FinishView.done z e) = ap (λ (x : Finished). x .number) e ∙ finished-0 p ∙ sym z
 
-    number : f .number ≡ standing p 1
+    number : f .number ≡ stateRefusal p 1
     number = by (finish-view a)
 
     unchanged : (f .number ≡ 0 → ⊥) → FinishView p f → (f .pieces ≡ p) × (f .tag ≡ zeroBlock) × (f .rows ≡ 0)
@@ -143,33 +140,6 @@ finishes-in-order p f a = record {
 
 pub refused-in-order-by-pieces : Refused-in-order-by-pieces
 refused-in-order-by-pieces = (begins-in-order, takes-in-order, finishes-in-order)
-
--- ---- the last piece, and the finish
-
-take-past : (p : Pieces) (piece : List ℕ) (outcome : Taking) → p .number ≡ 0 → 0 < p .stage → TakeAllows p piece outcome → outcome .answer .number ≡ 8
-take-past p piece outcome z h a = takes-in-order p piece outcome a .then-8 z (λ r. omega (arith, h, r .in-time))
-
-pub partial-piece-is-the-last : Partial-piece-is-the-last
-partial-piece-is-the-last p piece next outcome outcome′ a z part a′ =
-    let s = stage-taken p piece outcome a z in
-    take-past (outcome .answer .pieces) next outcome′ (s .1) (rw (s .0, ne-eqb _ _ part) (lit< tt)) a′
-
--- a finish that answers 0 leaves a state that is finished
-stage-finished : (p : Pieces) (f : Finished) → FinishAllows p f → f .number ≡ 0 → (f .pieces .stage ≡ 2) × (f .pieces .number ≡ 0)
-unfolding finished
-stage-finished p f a z = by (finish-view a)
-  where
-    by : FinishView p f → (f .pieces .stage ≡ 2) × (f .pieces .number ≡ 0)
-    by (FinishView.refused h e) = absurd (h (sym (ap (λ (x : Finished). x .number) e) ∙ z))
-    by (FinishView.done n e) =
-        (ap (λ (x : Finished). x .pieces .stage) e, ap (λ (x : Finished). x .pieces .number) e ∙ stands p 1 n .begun)
-
-pub finish-is-the-last : Finish-is-the-last
-finish-is-the-last p f f′ piece outcome a z =
-    let s = stage-finished p f a z in (
-      λ t. take-past (f .pieces) piece outcome (s .1) (omega (arith, s .0)) t,
-      λ t. finishes-in-order (f .pieces) f′ t .then-8 (s .1) (λ r. omega (arith, s .0, r .in-time)),
-    )
 
 pub one-outcome-by-pieces : One-outcome-by-pieces
 one-outcome-by-pieces =

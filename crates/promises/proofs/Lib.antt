@@ -7,9 +7,9 @@ pub mod Modes
 pub mod Views
 pub mod InOrder
 pub mod FromRows
+pub mod Promises
 pub mod Joined
 pub mod PieceViews
 pub mod Running
 pub mod ByPieces
 pub mod ByPiecesInOrder
-pub mod Promises

@@ -14,7 +14,7 @@ use Rattle.pieces.specs.ByPieces.{
   held,
   void,
   beginRefusal,
-  standing,
+  stateRefusal,
   takeRefusal,
   Taking,
   pieceText,
@@ -24,7 +24,7 @@ use Rattle.pieces.specs.ByPieces.{
   TakeAllows,
   FinishAllows,
 }
-use Rattle.pieces.proofs.Standing.{begin-passed, begin-first, stands, stands-first, take-passed}
+use Rattle.pieces.proofs.Refusals.{begin-passed, begin-first, stands, stands-first, take-passed}
 use Rattle.pieces.proofs.Answers as Answers
 use Rattle.promises.proofs.Views.{Decided, decided}
 
@@ -42,13 +42,13 @@ take-view {p} {piece} {outcome} a = by (decided (takeRefusal p (length piece)) 0
     by (Decided.other h) = TakeView.refused h (a ∙ sym (Answers.take-refused p piece h))
 
 pub data FinishView (p : Pieces) (f : Finished) : Type 0 where
-  refused : (standing p 1 ≡ 0 → ⊥) → f ≡ record { pieces = p; number = standing p 1; tag = zeroBlock; rows = 0 } → FinishView p f
-  done : standing p 1 ≡ 0 → f ≡ finished p → FinishView p f
+  refused : (stateRefusal p 1 ≡ 0 → ⊥) → f ≡ record { pieces = p; number = stateRefusal p 1; tag = zeroBlock; rows = 0 } → FinishView p f
+  done : stateRefusal p 1 ≡ 0 → f ≡ finished p → FinishView p f
 
 pub finish-view : {p : Pieces} {f : Finished} → FinishAllows p f → FinishView p f
-finish-view {p} {f} a = by (decided (standing p 1) 0)
+finish-view {p} {f} a = by (decided (stateRefusal p 1) 0)
   where
-    by : Decided (standing p 1) 0 → FinishView p f
+    by : Decided (stateRefusal p 1) 0 → FinishView p f
     by (Decided.equal e) = FinishView.done e (a ∙ sym (Answers.finish-done p e))
     by (Decided.other h) = FinishView.refused h (a ∙ sym (Answers.finish-refused p h))
 
@@ -69,11 +69,11 @@ begin-view {suite} {key} {nonce} {ad} {begun} a = by (decided (beginRefusal suit
 -- ---- a state that begin refused
 
 module _ (p : Pieces) (h : p .number ≡ 0 → ⊥) where
-  pub no-standing : (last : ℕ) → standing p last ≡ p .number
-  no-standing last = sym (begin-first p last h)
+  pub no-state : (last : ℕ) → stateRefusal p last ≡ p .number
+  no-state last = sym (begin-first p last h)
 
   pub no-taking : (bytes : ℕ) → takeRefusal p bytes ≡ p .number
-  no-taking bytes = sym (stands-first p bytes (λ e. h (begin-first p 0 h ∙ e))) ∙ no-standing 0
+  no-taking bytes = sym (stands-first p bytes (λ e. h (begin-first p 0 h ∙ e))) ∙ no-state 0
 
 -- ---- a state that took a piece
 

@@ -19,9 +19,8 @@ use Rattle.deoxys_i.specs.DeoxysI.{rowsFrom, textFrom, cryptRows, crypted}
 use Rattle.deoxys_i.proofs.Counts.{crypt-count}
 use Rattle.pieces.specs.declared.Pieces.{Pieces}
 use Rattle.pieces.specs.ByPieces.{held, Taking, pieceRows, pieceText, took, TakeAllows}
-use Rattle.pieces.proofs.Standing.{Stands, stands, take-passed}
+use Rattle.pieces.proofs.Refusals.{Stands, stands, take-passed}
 use Rattle.promises.specs.ByPieces.{Step, Leads, takenGiven, takenLeft, takenRows}
-use Rattle.promises.proofs.InOrder.{within}
 use Rattle.promises.proofs.Joined.{sum-joined, rows-joined, text-joined}
 use Rattle.promises.proofs.PieceViews.{TakeView, take-view}
 
@@ -40,6 +39,7 @@ pub record Running (k : Subkeys) (nonce ad message : List ℕ) (p : Pieces) : Ty
   pub is-held : p ≡ held k nonce ad message stage
   pub in-time : stage ≤ 1
   pub whole : stage ≡ 0 → length message % 16 ≡ 0
+  pub part : stage ≡ pick (eqb (length message % 16) 0) 0 1
   pub within : length message ≤ 1048576
 
 -- the stage after a piece
@@ -119,6 +119,7 @@ module _ (k : Subkeys) (nonce ad : List ℕ) (keyed : (k .rounds ≡ 14) ⊎ (k 
                 ∙ grown k nonce ad message piece whole (r .stage);
             in-time = after-time (eqb (length piece % 16) 0);
             whole = λ o. let l = eqb-true (length piece % 16) 0 (after-open _ o) in rw length-append (omega arith);
+            part = let l : length (message ++ piece) % 16 ≡ length piece % 16 = rw length-append (omega (arith, whole)) in rw l;
             within = rw length-append (omega (arith, total, passed .1));
           })
           (ap (λ (o : Taking). o .piece) e ∙ ap (λ (q : Pieces). pieceText q piece) (r .is-held))

@@ -7,13 +7,14 @@ use mathlib.Core.List.{List, [], _∷_, _++_}
 use Prim.Native.Nat.{ℕ, _+_, _%_, _≤_, _<_}
 use lib.Dec.{eqb}
 use lib.ListN.{length}
-use Rattle.octets.specs.Octets.{pick, zeroBlock}
+use Rattle.octets.specs.Octets.{Bytes, pick, zeroBlock}
 use Rattle.tweakey.specs.Tweakey.{expanded}
 use Rattle.modes.specs.Rows.{Row, dataRows}
-use Rattle.deoxys.specs.Entry.{Sealing, sealed, sealing}
+use Rattle.deoxys.specs.Entry.{Sealing, Opening, sealed, sealing, OpenAllows}
 use Rattle.pieces.specs.declared.Pieces.{Pieces}
 use Rattle.pieces.specs.declared.Finished.{Finished}
 use Rattle.pieces.specs.ByPieces.{held, void, Taking, pieceRows, finishRow, BeginAllows, TakeAllows, FinishAllows}
+use Rattle.promises.specs.Statements.{Given, Returned}
 use Rattle.promises.specs.Refusals.{Fault, Ordered}
 
 -- ---- pieces one after another
@@ -85,7 +86,7 @@ Pieces-are-one-call = (suite : ℕ) (key nonce ad : List ℕ) (begun p : Pieces)
     → OneCall (sealing suite key nonce ad (given steps)) (left steps) f
     × Numbered (sealing suite key nonce ad (given steps) .answer .number) steps
 
--- For any pieces at all, refused ones among them: the same holds of those that were taken.
+-- For any pieces at all, refused ones among them: ciphertext, tag and rows are those of the single call over the pieces that were taken.
 abbrev pub Refused-pieces-leave-no-trace : Type 0
 Refused-pieces-leave-no-trace = (suite : ℕ) (key nonce ad : List ℕ) (begun p : Pieces) (steps : List Step) (f : Finished)
     → suite ≤ 2 → BeginAllows suite key nonce ad begun → Leads begun steps p → FinishAllows p f
@@ -96,6 +97,13 @@ abbrev pub Pieces-make-the-same-calls : Type 0
 Pieces-make-the-same-calls = (suite : ℕ) (key nonce ad : List ℕ) (begun p : Pieces) (steps : List Step)
     → BeginAllows suite key nonce ad begun → begun .number ≡ 0 → Leads begun steps p
     → dataRows (expanded key) ad ++ (takenRows begun steps ++ (finishRow p ∷ [])) ≡ sealed suite key nonce ad (takenGiven steps) .rows
+
+-- What was sealed by pieces, opening accepts and gives back.
+abbrev pub Opens-what-pieces-sealed : Type 0
+Opens-what-pieces-sealed = (suite : ℕ) (key nonce ad : List ℕ) (begun p : Pieces) (steps : List Step) (f : Finished) (o : Opening)
+    → Given key nonce ad → Bytes (given steps) → BeginAllows suite key nonce ad begun → begun .number ≡ 0
+    → Leads begun steps p → FinishAllows p f → Allowed steps
+    → OpenAllows suite key nonce ad (left steps) (f .tag) o → Returned (given steps) o
 
 -- ---- the numbers in their order, and what each leaves
 
@@ -110,7 +118,7 @@ pub record BeginsInOrder (suite : ℕ) (key nonce ad : List ℕ) (begun : Pieces
   pub refused : (begun .number ≡ 0 → ⊥) → begun ≡ void (begun .number)
   pub done : begun .number ≡ 0 → begun ≡ held (expanded key) nonce ad [] 0
 
--- what a state has to be for a call that this stage is the last for; all but the stage holds of every state that calls give
+-- what a state has to be for a call that this stage is the last for; all but the stage holds of every state that a begin and its pieces gave
 pub record Ready (last : ℕ) (p : Pieces) : Type 0 where
   pub in-time : p .stage ≤ last
   pub few-bytes : p .total ≤ 1048576
@@ -138,33 +146,38 @@ Refused-in-order-by-pieces =
     × ((p : Pieces) (piece : List ℕ) (outcome : Taking) → TakeAllows p piece outcome → TakesInOrder p piece outcome)
     × ((p : Pieces) (f : Finished) → FinishAllows p f → FinishesInOrder p f)
 
--- A piece that was taken and is no multiple of 16 bytes is the last: any later one, of any length, is refused with 8.
-abbrev pub Partial-piece-is-the-last : Type 0
-Partial-piece-is-the-last = (p : Pieces) (piece next : List ℕ) (outcome outcome′ : Taking)
-    → TakeAllows p piece outcome → outcome .answer .number ≡ 0 → (length piece % 16 ≡ 0 → ⊥)
-    → TakeAllows (outcome .answer .pieces) next outcome′ → outcome′ .answer .number ≡ 8
-
--- After a finish, pieces and finish are refused with 8.
-abbrev pub Finish-is-the-last : Type 0
-Finish-is-the-last = (p : Pieces) (f f′ : Finished) (piece : List ℕ) (outcome : Taking) → FinishAllows p f → f .number ≡ 0
-    → ((TakeAllows (f .pieces) piece outcome → outcome .answer .number ≡ 8) × (FinishAllows (f .pieces) f′ → f′ .number ≡ 8))
-
--- A begin that refused, also one of the suites 3 and 4: its number answers every piece, which stays as it was, and the finish, with zero tag
--- and no rows.
-pub record AnsweredAlike (begun : Pieces) (steps : List Step) (f : Finished) : Type 0 where
-  pub numbered : Numbered (begun .number) steps
+-- pieces that were all refused with a number and left as they were, and the state as it stood
+pub record Stays (n : ℕ) (p : Pieces) (steps : List Step) (q : Pieces) : Type 0 where
+  pub numbered : Numbered n steps
   pub as-given : left steps ≡ given steps
-  pub finish : f ≡ record { pieces = begun; number = begun .number; tag = zeroBlock; rows = 0 }
+  pub at-rest : q ≡ p
 
+-- A piece that was taken and is no multiple of 16 bytes is the last: all later ones, of any length, are refused with 8.
+abbrev pub Partial-piece-is-the-last : Type 0
+Partial-piece-is-the-last = (p q : Pieces) (piece : List ℕ) (outcome : Taking) (steps : List Step)
+    → TakeAllows p piece outcome → outcome .answer .number ≡ 0 → (length piece % 16 ≡ 0 → ⊥)
+    → Leads (outcome .answer .pieces) steps q → Stays 8 (outcome .answer .pieces) steps q
+
+-- and the finish is refused too, with zero tag and no rows
+abbrev pub refusedFinish : ℕ → Pieces → Finished
+refusedFinish n p = record { pieces = p; number = n; tag = zeroBlock; rows = 0 }
+
+-- After a finish, all pieces and every finish are refused with 8.
+abbrev pub Finish-is-the-last : Type 0
+Finish-is-the-last = (p q : Pieces) (f f′ : Finished) (steps : List Step) → FinishAllows p f → f .number ≡ 0
+    → Leads (f .pieces) steps q → FinishAllows q f′ → Stays 8 (f .pieces) steps q × (f′ ≡ refusedFinish 8 (f .pieces))
+
+-- A begin that refused, also one of the suites 3 and 4: its number answers every piece, which stays as it was, and the finish.
 abbrev pub Refused-begin-answers-all : Type 0
 Refused-begin-answers-all = (suite : ℕ) (key nonce ad : List ℕ) (begun p : Pieces) (steps : List Step) (f : Finished)
-    → BeginAllows suite key nonce ad begun → (begun .number ≡ 0 → ⊥) → Leads begun steps p → FinishAllows p f → AnsweredAlike begun steps f
+    → BeginAllows suite key nonce ad begun → (begun .number ≡ 0 → ⊥) → Leads begun steps p → FinishAllows p f
+    → Stays (begun .number) begun steps p × (f ≡ refusedFinish (begun .number) begun)
 
 -- ---- states
 
--- Every state that calls give is what the pieces taken so far come to, and its rounds, bytes and rows are within their bounds.
+-- Every state that a begin and pieces give is what the pieces taken so far come to, and its rounds, bytes and rows are within their bounds.
 pub record Holds (key nonce ad message : List ℕ) (p : Pieces) : Type 0 where
-  pub is-held : p ≡ held (expanded key) nonce ad message (p .stage)
+  pub is-held : p ≡ held (expanded key) nonce ad message (pick (eqb (length message % 16) 0) 0 1)
   pub ready : Ready 1 p
 
 abbrev pub Holds-what-was-taken : Type 0
@@ -176,5 +189,6 @@ Holds-what-was-taken = (suite : ℕ) (key nonce ad : List ℕ) (begun p : Pieces
 abbrev pub One-outcome-by-pieces : Type 0
 One-outcome-by-pieces =
     ((suite : ℕ) (key nonce ad : List ℕ) (p p′ : Pieces) → BeginAllows suite key nonce ad p → BeginAllows suite key nonce ad p′ → p ≡ p′)
-    × ((p : Pieces) (piece : List ℕ) (outcome outcome′ : Taking) → TakeAllows p piece outcome → TakeAllows p piece outcome′ → outcome ≡ outcome′)
+    × ((p : Pieces) (piece : List ℕ) (outcome outcome′ : Taking)
+    → TakeAllows p piece outcome → TakeAllows p piece outcome′ → outcome ≡ outcome′)
     × ((p : Pieces) (f f′ : Finished) → FinishAllows p f → FinishAllows p f′ → f ≡ f′)

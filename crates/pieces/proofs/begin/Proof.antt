@@ -5,7 +5,7 @@ use native.Mathlib.Omega.{arith}
 use borrow.Author.Needs.{needs}
 use Rattle.suites.proofs.Refusals.{good, key-is, nonce-i}
 use Rattle.tweakey.proofs.Tweakeys.{rounds-small}
-use Rattle.pieces.proofs.Standing.{begin-passed}
+use Rattle.pieces.proofs.Refusals.{begin-passed}
 use Rattle.pieces.proofs.Answers.{begin-refused, begin-done, nothing-taken}
 use Rattle.pieces.proofs.begin.Statement.{statement}
 use Rattle.pieces.proofs.begin.Tie as tie

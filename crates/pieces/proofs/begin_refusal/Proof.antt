@@ -3,7 +3,7 @@
 use mathlib.Core.Path.{_∙_}
 use native.Mathlib.Omega.{arith}
 use borrow.Author.Needs.{needs}
-use Rattle.pieces.proofs.Standing.{other-suite, own-suite}
+use Rattle.pieces.proofs.Refusals.{other-suite, own-suite}
 use Rattle.pieces.proofs.begin_refusal.Statement.{statement}
 use Rattle.pieces.proofs.begin_refusal.Tie as tie
 

@@ -1,7 +1,7 @@
 -- `pieces::length_refusal` meets its contract: what the tests show of the sum, which is never made.
 -- Assumes nothing.
 use native.Mathlib.Omega.{arith}
-use Rattle.pieces.proofs.Standing.{over, not-over}
+use Rattle.pieces.proofs.Refusals.{over, not-over}
 use Rattle.pieces.proofs.length_refusal.Statement.{statement}
 use Rattle.pieces.proofs.length_refusal.Tie as tie
 

@@ -1,7 +1,7 @@
 -- `pieces::stage_after` meets its contract: by the test.
 -- Assumes nothing.
 use native.Mathlib.Omega.{arith}
-use Rattle.pieces.proofs.Standing.{stays-open, closes}
+use Rattle.pieces.proofs.Refusals.{stays-open, closes}
 use Rattle.pieces.proofs.stage_after.Statement.{statement}
 use Rattle.pieces.proofs.stage_after.Tie as tie
 

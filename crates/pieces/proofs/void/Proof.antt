@@ -5,7 +5,6 @@ use Rattle.octets.specs.Octets.{zeroBlock}
 use Rattle.pieces.proofs.void.Statement.{statement}
 use Rattle.pieces.proofs.void.Tie as tie
 
--- src/lib.rt:60:1
 returns : tie.Need-returns
 unfolding zeroBlock
 returns c = refl

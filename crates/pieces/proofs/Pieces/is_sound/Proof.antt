@@ -1,7 +1,7 @@
 -- `pieces::Pieces::is_sound` meets its contract: a law for each test.
 -- Assumes nothing.
 use native.Mathlib.Omega.{arith}
-use Rattle.pieces.proofs.Standing.{many-bytes, many-rows, of-a-short-key, of-a-long-key, of-no-key}
+use Rattle.pieces.proofs.Refusals.{many-bytes, many-rows, of-a-short-key, of-a-long-key, of-no-key}
 use Rattle.pieces.proofs.Pieces.is_sound.Statement.{statement}
 use Rattle.pieces.proofs.Pieces.is_sound.Tie as tie
 

@@ -2,7 +2,7 @@
 -- Assumes nothing.
 use native.Mathlib.Omega.{arith}
 use borrow.Author.Needs.{needs}
-use Rattle.pieces.proofs.Standing.{few-rounds, stands, take-passed}
+use Rattle.pieces.proofs.Refusals.{few-rounds, stands, take-passed}
 use Rattle.pieces.proofs.Answers.{took-is, text-is}
 use Rattle.pieces.proofs.Pieces.took.Statement.{statement}
 use Rattle.pieces.proofs.Pieces.took.Tie as tie

@@ -1,6 +1,6 @@
 -- What refuses a call, as the code's tests show it; and what holds where nothing does.
 -- Assumes nothing.
-use mathlib.Core.Path.{_≡_, refl, sym, _∙_}
+use mathlib.Core.Path.{_≡_, refl, sym}
 use mathlib.Core.Bool.{Bool, true, false, false≢true}
 use mathlib.Core.Logic.{_⊎_, inl, inr, ⊎-elim}
 use Prim.Native.Nat.{ℕ, zero, suc, _+_, _%_, _≤_, _<_}
@@ -11,7 +11,7 @@ use borrow.Author.Tests.{eq-eqb, ne-eqb, lt-ltb, le-ltb, le-leb, lt-leb, leb-tru
 use Rattle.octets.specs.Octets.{pick}
 use Rattle.suites.specs.Suites.{refusal}
 use Rattle.pieces.specs.declared.Pieces.{Pieces}
-use Rattle.pieces.specs.ByPieces.{beginRefusal, sound, standing, takeRefusal}
+use Rattle.pieces.specs.ByPieces.{beginRefusal, sound, stateRefusal, takeRefusal}
 
 -- ---- begin
 
@@ -83,22 +83,22 @@ bounded {p} g =
 -- ---- every later call
 
 module _ (p : Pieces) (last : ℕ) where
-  pub begin-first : (p .number ≡ 0 → ⊥) → p .number ≡ standing p last
-  unfolding standing
+  pub begin-first : (p .number ≡ 0 → ⊥) → p .number ≡ stateRefusal p last
+  unfolding stateRefusal
   begin-first h = simp (ne-eqb _ _ h)
 
   module _ (h₀ : p .number ≡ 0) where
-    pub past : last < p .stage → 8 ≡ standing p last
-    unfolding standing
+    pub past : last < p .stage → 8 ≡ stateRefusal p last
+    unfolding stateRefusal
     past h = simp (eq-eqb _ _ h₀, lt-leb _ _ h)
 
     module _ (h₁ : p .stage ≤ last) where
-      pub none : sound p ≡ true → 0 ≡ standing p last
-      unfolding standing
+      pub none : sound p ≡ true → 0 ≡ stateRefusal p last
+      unfolding stateRefusal
       none e = rw (eq-eqb _ _ h₀, le-leb _ _ h₁, e)
 
-      pub unsound : sound p ≡ false → 8 ≡ standing p last
-      unfolding standing
+      pub unsound : sound p ≡ false → 8 ≡ stateRefusal p last
+      unfolding stateRefusal
       unsound e = rw (eq-eqb _ _ h₀, le-leb _ _ h₁, e)
 
 -- what holds where a state refuses nothing up to this stage
@@ -118,15 +118,15 @@ eight-or-none : (b : Bool) → _≡_ {A = ℕ} (pick b 0 8) 0 → b ≡ true
 eight-or-none true e = refl
 eight-or-none false e = absurd (suc-ne-zero 7 e)
 
-pub stands : (p : Pieces) (last : ℕ) → standing p last ≡ 0 → Stands p last
-unfolding standing
+pub stands : (p : Pieces) (last : ℕ) → stateRefusal p last ≡ 0 → Stands p last
+unfolding stateRefusal
 stands p last e =
     let z = first-zero (p .number) _ e in
     let t = both _ _ (eight-or-none _ (rw (eq-eqb _ _ z) at e)) in
     record { begun = z; staged = leb-true _ _ (t .0); within = bounds p (t .1) }
 
-pub standing-none : {p : Pieces} {last : ℕ} → Stands p last → 0 ≡ standing p last
-standing-none {p} {last} g = none p last (g .begun) (g .staged) (bounded (g .within))
+pub state-passes : {p : Pieces} {last : ℕ} → Stands p last → 0 ≡ stateRefusal p last
+state-passes {p} {last} g = none p last (g .begun) (g .staged) (bounded (g .within))
 
 -- ---- a piece
 
@@ -143,11 +143,11 @@ pub not-over : (total bytes : ℕ) → total + bytes ≤ 1048576 → _≡_ {A = 
 not-over total bytes h = simp (le-ltb _ _ h)
 
 module _ (p : Pieces) (bytes : ℕ) where
-  pub stands-first : (standing p 0 ≡ 0 → ⊥) → standing p 0 ≡ takeRefusal p bytes
+  pub stands-first : (stateRefusal p 0 ≡ 0 → ⊥) → stateRefusal p 0 ≡ takeRefusal p bytes
   unfolding takeRefusal
   stands-first h = simp (ne-eqb _ _ h)
 
-  module _ (h₀ : standing p 0 ≡ 0) where
+  module _ (h₀ : stateRefusal p 0 ≡ 0) where
     pub too-long : 1048576 < p .total + bytes → 5 ≡ takeRefusal p bytes
     unfolding takeRefusal
     too-long h = rw (eq-eqb _ _ h₀) (over (p .total) bytes h)
@@ -156,10 +156,10 @@ module _ (p : Pieces) (bytes : ℕ) where
     unfolding takeRefusal
     taken h = rw (eq-eqb _ _ h₀) (not-over (p .total) bytes h)
 
-  pub take-passed : takeRefusal p bytes ≡ 0 → (standing p 0 ≡ 0) × (p .total + bytes ≤ 1048576)
+  pub take-passed : takeRefusal p bytes ≡ 0 → (stateRefusal p 0 ≡ 0) × (p .total + bytes ≤ 1048576)
   unfolding takeRefusal
   take-passed e =
-      let z = first-zero (standing p 0) _ e in
+      let z = first-zero (stateRefusal p 0) _ e in
       (z, ltb-false _ _ (five-or-none _ (rw (eq-eqb _ _ z) at e)))
     where
       five-or-none : (b : Bool) → _≡_ {A = ℕ} (pick b 5 0) 0 → b ≡ false
