@@ -91,16 +91,19 @@ struct deoxys_opened deoxys_open(uint8_t suite,
  *     struct deoxys_finished finished = deoxys_finish(state);
  *
  * Where every number is 0, the joined pieces, the tag and the rows are those
- * of one deoxys_seal of the joined message.
+ * of one deoxys_seal of the joined message, with the same suite, key, nonce
+ * and data.
  *
- * A piece has any length, 0 too. One that is no multiple of 16 bytes is the
- * last. The numbers, in the order in which they are checked:
+ * A piece has any length, 0 too. One that is taken and is no multiple of 16
+ * bytes is the last. The numbers, in the order in which they are checked:
  *
  *   begin's  in the state: 1 where the suite isn't 1 or 2; 2 to 4 as above.
  *            Every later call with this state answers with it
- *   8        a piece after one that was no multiple of 16 bytes; a piece or a
- *            finish after a finish; any call with a state whose rounds, total
- *            or rows no call gives, such as one that was wiped
+ *   8        a piece after one was taken that is no multiple of 16 bytes; a
+ *            piece or a finish after a finish; any call with a state whose
+ *            rounds are not 14 or 16, whose total is over DEOXYS_LIMIT or
+ *            whose rows are over 131,072, such as one that was wiped. Other
+ *            changes of a state are not seen
  *   5        a piece that would bring the message over DEOXYS_LIMIT
  *
  * A refused call hands back the state as it stood and leaves the piece as it
@@ -110,7 +113,9 @@ struct deoxys_opened deoxys_open(uint8_t suite,
  * that were taken.
  *
  * A state holds key material, a finished one too: wipe it when it is done
- * with. An old copy of a state goes on from where that state stood, so that
+ * with. Each call takes and gives it by value, so that copies stay on the
+ * stack; the library wipes nothing. The state of a refused begin is zero but
+ * for its number. Bytes between the fields of a state say nothing. An old copy of a state goes on from where that state stood, so that
  * two messages could be sealed under one nonce, which Deoxys-I forbids: use
  * each state once. */
 
@@ -120,7 +125,7 @@ struct deoxys_subkeys {
     size_t rounds;
 };
 
-/* The running state. Read its first number; leave the rest to the library. */
+/* The running state. Read its number; leave the rest to the library. */
 struct deoxys_pieces {
     uint8_t number; /* begin's */
     uint8_t stage;  /* 0 takes pieces, 1 was closed by its last, 2 is finished */

@@ -482,6 +482,7 @@ static void refuse_too_much_data(const struct suite *suite)
     struct deoxys_pieces state =
         deoxys_begin(suite->number, in.key, suite->key_length, in.nonce, suite->nonce_length,
                      long_data, sizeof long_data);
+    expect(state.number == DEOXYS_DATA_TOO_LONG, "another number was expected for a begin");
     refuse_every_call(state, DEOXYS_DATA_TOO_LONG, "begun with data over the limit");
 }
 

@@ -59,7 +59,7 @@ def every_cutting(blocks, part):
 
 
 def cuttings(model):
-    yield "# Every cutting of 0 to 5 blocks and a part of 0, 1 or 15 bytes into pieces of 0, 1 and 2 blocks, answers by model.py."
+    yield "# Every cutting of 0 to 5 blocks and a part of 0, 1 or 15 bytes into pieces of 1 and 2 blocks, without and with an empty one, answers by model.py."
     yield "# cut SUITE KEY NONCE DATA MESSAGE CIPHERTEXT TAG ROWS SCRIPT.. ('-' for none)"
     for suite, (turn, blocks), (other, part) in itertools.product(KEY_AND_NONCE, enumerate(WHOLE), enumerate(PARTS)):
         data, message = DATA[(turn + 2 * other + 3 * suite) % len(DATA)], BLOCK * blocks + part

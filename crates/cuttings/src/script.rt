@@ -8,7 +8,7 @@ pub const STEPS: usize = 16;
 // The size of the finish, and of a step that the script has not.
 pub const FINISH: usize = 0xffffffff;
 
-pub const NONE: usize = 0xfffffffe;
+pub const NO_STEP: usize = 0xfffffffe;
 
 // More bytes are not taken by a script.
 const MOST: usize = 2097152;
@@ -62,7 +62,7 @@ fn step_of(word: &[u8]) -> Step {
 
 fn none() -> Script {
     Script {
-        sizes: [NONE; STEPS],
+        sizes: [NO_STEP; STEPS],
         numbers: [0u8; STEPS],
         count: 0,
         taken: 0,

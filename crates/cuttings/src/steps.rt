@@ -235,7 +235,7 @@ fn step(
     sealed: &[u8],
     room: &mut [u8],
 ) -> Run {
-    if size == script::NONE {
+    if size == script::NO_STEP {
         return run;
     }
     if size == script::FINISH {

@@ -8,6 +8,7 @@ use std::fmt;
 ///
 /// It holds key material, and nothing wipes it when it is dropped. The library takes the state by value, so
 /// that each call leaves a copy on the stack, and wiping this one alone would promise too much.
+#[must_use = "a message that is not finished has no tag"]
 pub struct Pieces(Box<ffi::Pieces>); // boxed, to be handed back in an `Err`
 
 /// A piece was refused. It is as it was, and so is the state: after `MessageTooLong` it takes a shorter
@@ -25,8 +26,8 @@ impl Pieces {
         done_or_refused(state.number, 0).map(|()| Pieces(Box::new(state)))
     }
 
-    /// Enciphers the next piece in place. One that is no multiple of 16 bytes is the last: after it every
-    /// piece is refused, an empty one too.
+    /// Enciphers the next piece in place. Once one is taken that is no multiple of 16 bytes, every other is
+    /// refused, an empty one too.
     pub fn take(mut self, piece: &mut [u8]) -> Result<Pieces, Refused> {
         let ffi::Taken { pieces, number } = ffi::take(*self.0, piece);
         *self.0 = pieces;

@@ -1,4 +1,4 @@
--- `piverrone::by_pieces::is_written` meets its contract: where the number is a refusal, nothing is written.
+-- `piverrone::by_pieces::is_written` meets its contract: where the number is a refusal, it does not say that it is written.
 -- Rests on libc's contracts, the toolchain's axioms about the system's calls (`write`), and assumes nothing else.
 use mathlib.Core.Bool.{false≢true}
 use borrow.Author.Needs.{needs}
