@@ -115,9 +115,10 @@ struct deoxys_opened deoxys_open(uint8_t suite,
  * A state holds key material, a finished one too: wipe it when it is done
  * with. Each call takes and gives it by value, so that copies stay on the
  * stack; the library wipes nothing. The state of a refused begin is zero but
- * for its number. Bytes between the fields of a state say nothing. An old copy of a state goes on from where that state stood, so that
- * two messages could be sealed under one nonce, which Deoxys-I forbids: use
- * each state once. */
+ * for its number. Bytes between the fields of a state say nothing. An old
+ * copy of a state goes on from where that state stood, so that two messages
+ * could be sealed under one nonce, which Deoxys-I forbids: use each state
+ * once. */
 
 /* The expanded key. */
 struct deoxys_subkeys {
