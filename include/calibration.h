@@ -129,7 +129,7 @@ struct deoxys_subkeys {
 /* The running state. Read its number; leave the rest to the library. */
 struct deoxys_pieces {
     uint8_t number; /* begin's */
-    uint8_t stage;  /* 0 takes pieces, 1 was closed by its last, 2 is finished */
+    uint8_t stage;  /* 0 takes pieces, 1 has had its last, 2 is finished */
     struct deoxys_subkeys keys;
     uint8_t nonce[8];
     uint8_t auth[16];
