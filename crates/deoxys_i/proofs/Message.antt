@@ -47,11 +47,11 @@ module _ (call : List ℕ → List ℕ → Row) (k : Subkeys) (nonce : List ℕ)
 
       taken : take (16 * (i + 1)) d ≡ take (16 * i) s ++ given
       unfolding given
-      taken = rw (next, w) (put-take s given (16 * i) f given-length)
+      taken = rw (next, w) (put-take s given (16 * i) 16 f given-length)
 
       dropped : drop (16 * (i + 1)) d ≡ drop 16 (drop (16 * i) s)
       unfolding given
-      dropped = rw (next, w) (put-drop s given (16 * i) f given-length ∙ sym (drop-drop 16 (16 * i) s))
+      dropped = rw (next, w) (put-drop s given (16 * i) 16 f given-length ∙ sym (drop-drop 16 (16 * i) s))
 
       number : first + (i + 1) ≡ first + i + 1
       number = omega arith

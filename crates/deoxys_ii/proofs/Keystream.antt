@@ -73,7 +73,7 @@ module _ (k : Subkeys) (tag nonce : List ℕ) where
           let q : m + suc (length (keystreamFrom k tag nonce (n - (i + 1)) (i + 1))) ≡ count = rw left at (g .counts) in
           let p : take (16 * i) s ++ (drop (16 * i) s ⊕ (block ++ given (keystreamFrom k tag nonce (n - (i + 1)) (i + 1)))) ≡ out = rw left at (g .outs) in
           record {
-            outs = rw (put-is, next, put-take s y (16 * i) f y-length, put-drop s y (16 * i) f y-length, ← drop-drop 16 (16 * i) s, append-assoc, ← split) p;
+            outs = rw (put-is, next, put-take s y (16 * i) 16 f y-length, put-drop s y (16 * i) 16 f y-length, ← drop-drop 16 (16 * i) s, append-assoc, ← split) p;
             counts = omega arith;
           }
 

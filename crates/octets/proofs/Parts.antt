@@ -53,44 +53,46 @@ part-table s at h = sym (is-table (λ i. getD s (at + i) 0) 16 (take 16 (drop at
 pub part-block : (s : List ℕ) (at : ℕ) → at + 16 ≤ length s → Bytes s → Block (take 16 (drop at s))
 part-block s at h p = subst Block (part-table s at h) (table-block (λ i. getD s (at + i) 0) (λ i b. p .at (at + i)))
 
-module _ (s b : List ℕ) (at : ℕ) (fits : at + 16 ≤ length s) (lb : length b ≡ 16) where
-  put : List ℕ
-  put = take at s ++ (b ++ drop (at + 16) s)
+-- ---- n bytes laid in at a place
 
-  head-length : length (take at s ++ b) ≡ at + 16
+module _ (s b : List ℕ) (at n : ℕ) (fits : at + n ≤ length s) (lb : length b ≡ n) where
+  put : List ℕ
+  put = take at s ++ (b ++ drop (at + n) s)
+
+  head-length : length (take at s ++ b) ≡ at + n
   head-length = length-append (take at s) b ∙ rw (length-take-le at s (omega arith), lb)
 
-  pub put-take : take (at + 16) (take at s ++ (b ++ drop (at + 16) s)) ≡ take at s ++ b
-  put-take = rw (← append-assoc) (take-at (take at s ++ b) (drop (at + 16) s) (at + 16) head-length)
+  pub put-take : take (at + n) (take at s ++ (b ++ drop (at + n) s)) ≡ take at s ++ b
+  put-take = rw (← append-assoc) (take-at (take at s ++ b) (drop (at + n) s) (at + n) head-length)
 
-  pub put-drop : drop (at + 16) (take at s ++ (b ++ drop (at + 16) s)) ≡ drop (at + 16) s
-  put-drop = rw (← append-assoc) (drop-at (take at s ++ b) (drop (at + 16) s) (at + 16) head-length)
+  pub put-drop : drop (at + n) (take at s ++ (b ++ drop (at + n) s)) ≡ drop (at + n) s
+  put-drop = rw (← append-assoc) (drop-at (take at s ++ b) (drop (at + n) s) (at + n) head-length)
 
-  pub put-length : length (take at s ++ (b ++ drop (at + 16) s)) ≡ length s
+  pub put-length : length (take at s ++ (b ++ drop (at + n) s)) ≡ length s
   put-length = simp (length-append, length-drop, lb, length-take-le at s (omega arith)) (omega arith)
 
-  put-at : (i : ℕ) → i < 16 → getD put (at + i) 0 ≡ getD b i 0
+  put-at : (i : ℕ) → i < n → getD put (at + i) 0 ≡ getD b i 0
   unfolding put
   put-at i h =
-      ap (λ (k : ℕ). getD (take at s ++ (b ++ drop (at + 16) s)) (k + i) 0) (sym (length-take-le at s (omega arith)))
-      ∙ getD-append-add (take at s) (b ++ drop (at + 16) s) i 0
-      ∙ List·getD-append b (drop (at + 16) s) 0 i (omega arith)
+      ap (λ (k : ℕ). getD (take at s ++ (b ++ drop (at + n) s)) (k + i) 0) (sym (length-take-le at s (omega arith)))
+      ∙ getD-append-add (take at s) (b ++ drop (at + n) s) i 0
+      ∙ List·getD-append b (drop (at + n) s) 0 i (omega arith)
 
-  -- the loop that lays a block in: before, a turn, after
-  pub put-none : s ≡ upto (take at s ++ (b ++ drop (at + 16) s)) s (at + 0)
+  -- the loop that lays them in: before, a turn, after
+  pub put-none : s ≡ upto (take at s ++ (b ++ drop (at + n) s)) s (at + 0)
   put-none =
-      simp (add-zero, take-at (take at s) (b ++ drop (at + 16) s) at (length-take-le at s (omega arith)), take-append-drop)
+      simp (add-zero, take-at (take at s) (b ++ drop (at + n) s) at (length-take-le at s (omega arith)), take-append-drop)
 
-  pub put-turn : (l : List ℕ) (i : ℕ) → i < 16 → l ≡ upto (take at s ++ (b ++ drop (at + 16) s)) s (at + i)
-      → set l (at + i) (getD b i 0) ≡ upto (take at s ++ (b ++ drop (at + 16) s)) s (at + (i + 1))
+  pub put-turn : (l : List ℕ) (i : ℕ) → i < n → l ≡ upto (take at s ++ (b ++ drop (at + n) s)) s (at + i)
+      → set l (at + i) (getD b i 0) ≡ upto (take at s ++ (b ++ drop (at + n) s)) s (at + (i + 1))
   unfolding put
   put-turn l i h e =
-      let n : at + i + 1 ≡ at + (i + 1) = omega arith in
+      let next : at + i + 1 ≡ at + (i + 1) = omega arith in
       upto-turn l put s (at + i) (getD b i 0) e (rw put-length (omega arith)) (omega arith) (sym (put-at i h))
-      ∙ ap (λ (k : ℕ). upto put s k) n
+      ∙ ap (λ (k : ℕ). upto put s k) next
 
-  pub put-end : (l : List ℕ) (i : ℕ) → i ≡ 16 → l ≡ upto (take at s ++ (b ++ drop (at + 16) s)) s (at + i) → l ≡ take at s ++ (b ++ drop (at + 16) s)
-  put-end l i e h = (rw e at h) ∙ rw put-take (append-assoc (take at s) b (drop (at + 16) s))
+  pub put-end : (l : List ℕ) (i : ℕ) → i ≡ n → l ≡ upto (take at s ++ (b ++ drop (at + n) s)) s (at + i) → l ≡ take at s ++ (b ++ drop (at + n) s)
+  put-end l i e h = (rw e at h) ∙ rw put-take (append-assoc (take at s) b (drop (at + n) s))
 
 -- ---- a part of a slice that goes to its end, lent and given back
 

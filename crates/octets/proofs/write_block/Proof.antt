@@ -17,7 +17,7 @@ abbrev μ-loop : tie.MeasureT-loop
 μ-loop s₀ at block i₀ s i = 16 - i
 
 loop-holds : tie.Need-loop-holds Inv-loop μ-loop
-loop-holds c = (put-none (c .args .s .now) (c .args .t3) (c .args .at) (search needs) (search needs), search needs, refl)
+loop-holds c = (put-none (c .args .s .now) (c .args .t3) (c .args .at) 16 (search needs) (search needs), search needs, refl)
 
 array-read-s : tie.Need-array-read-s Inv-loop μ-loop
 array-read-s c = search needs
@@ -37,7 +37,7 @@ loop-less c = search needs
 loop-again : tie.Need-loop-again Inv-loop μ-loop
 loop-again c = let a = c .before .before .args in
     let l = c .before .loop in (
-      put-turn (a .s .now) (a .t3) (a .at) (search needs) (search needs) (l .s) (l .i) (search needs) (l .inv .0),
+      put-turn (a .s .now) (a .t3) (a .at) 16 (search needs) (search needs) (l .s) (l .i) (search needs) (l .inv .0),
       omega arith,
       simp length-set (l .inv .2),
     )
@@ -48,7 +48,7 @@ same-length c = search needs
 returns : tie.Need-returns Inv-loop μ-loop
 returns c = let a = c .before .before .args in
     let l = c .before .loop in
-    put-end (a .s .now) (a .t3) (a .at) (search needs) (search needs) (l .s) (l .i) (omega arith) (l .inv .0)
+    put-end (a .s .now) (a .t3) (a .at) 16 (search needs) (search needs) (l .s) (l .i) (omega arith) (l .inv .0)
 
 pub write-block-spec : {M : Type 1} → statement M
 write-block-spec =

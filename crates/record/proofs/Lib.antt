@@ -1,0 +1,4 @@
+pub mod Readings
+pub mod OneField
+pub mod Ranges
+pub mod Laying

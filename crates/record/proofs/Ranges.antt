@@ -1,0 +1,17 @@
+-- A number from one to a greatest one: each return of `range_refusal`.
+-- Assumes nothing.
+use mathlib.Core.Path.{_≡_}
+use Prim.Native.Nat.{ℕ, _≤_, _<_}
+use borrow.Author.Tests.{le-leb, lt-leb}
+use Rattle.octets.specs.Octets.{pick}
+use Rattle.record.specs.Fields.{between}
+
+module _ (greatest value : ℕ) where
+  pub below : value < 1 → _≡_ {A = ℕ} 13 (pick (between 1 greatest value) 0 13)
+  below h = simp (lt-leb _ _ h)
+
+  pub above : 1 ≤ value → greatest < value → _≡_ {A = ℕ} 13 (pick (between 1 greatest value) 0 13)
+  above l h = simp (le-leb _ _ l, lt-leb _ _ h)
+
+  pub inside : 1 ≤ value → value ≤ greatest → _≡_ {A = ℕ} 0 (pick (between 1 greatest value) 0 13)
+  inside l h = simp (le-leb _ _ l, le-leb _ _ h)

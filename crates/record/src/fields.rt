@@ -1,0 +1,134 @@
+// One field: read from the bytes left, and laid into a destination.
+ghost use mathlib.Core.Path.{_≡_};
+ghost use Prim.Native.Nat.{_+_, _≤_, _<_};
+ghost use lib.ListN.{length, getD};
+ghost use Rattle.octets.specs.Octets.{pick};
+ghost use Rattle.record.specs.Fields.{between, number2, field};
+ghost use Rattle.record.specs.Parts.{laidAt, FieldRead};
+
+pub const SUITE: u8 = 1;
+
+pub const ROW: u8 = 2;
+
+pub const NONCE: u8 = 3;
+
+pub const NOTE: u8 = 4;
+
+pub const CIPHER: u8 = 5;
+
+pub const TAG: u8 = 6;
+
+pub const MOST_SUITE: usize = 4;
+
+pub const MOST_ROW: usize = 20;
+
+pub const MOST_NOTE: usize = 1024;
+
+pub const MOST_CIPHER: usize = 4096;
+
+pub const TAG_BYTES: usize = 16;
+
+pub const MISSING: u8 = 10;
+
+const WRONG_TAG: u8 = 11;
+
+pub const WRONG_LENGTH: u8 = 12;
+
+const OUT_OF_RANGE: u8 = 13;
+
+// A field's tag and length.
+const HEAD_BYTES: usize = 3;
+
+// A field that was read: a number, and how many bytes it has after its head.
+pub struct Part {
+    pub number: u8,
+    pub bytes: usize,
+}
+
+fn wide(x: u8) -> usize
+    ensures { λ r. ⌜ (r ≡ x) × (r < 256) ⌝ }
+{
+    x as usize
+}
+
+// The number of two bytes, the higher first.
+pub fn pair(s: &[u8], at: usize) -> usize
+    requires { ⌜ at + 1 < length (now s) ⌝ }
+    ensures { λ r. ⌜ r ≡ number2 (getD (now (s .entry)) at 0) (getD (now (s .entry)) (at + 1) 0) ⌝ }
+    ensures { λ r. ⌜ r < 65536 ⌝ }
+{
+    wide(s[at]) * 256 + wide(s[at + 1])
+}
+
+// A suite's or a row's number: both count from one.
+pub fn range_refusal(value: usize, greatest: usize) -> u8
+    ensures { λ r. ⌜ r ≡ pick (between 1 greatest value) 0 13 ⌝ }
+{
+    if value < 1 {
+        return OUT_OF_RANGE;
+    }
+    if greatest < value {
+        return OUT_OF_RANGE;
+    }
+    0
+}
+
+fn refused(number: u8) -> Part
+    ensures { λ r. ⌜ r ≡ record { number = number; bytes = 0 } ⌝ }
+{
+    Part {
+        number,
+        bytes: 0,
+    }
+}
+
+// The field that the bytes left begin with, all but its range.
+pub fn read_field(left: &[u8], tag: u8, least: usize, greatest: usize) -> Part
+    ensures { λ r. ⌜ FieldRead tag least greatest (now (left .entry)) r ⌝ }
+{
+    if left.len() < HEAD_BYTES {
+        return refused(MISSING);
+    }
+    if left[0] != tag {
+        return refused(WRONG_TAG);
+    }
+    let bytes = pair(left, 1);
+    if bytes < least {
+        return refused(WRONG_LENGTH);
+    }
+    if greatest < bytes {
+        return refused(WRONG_LENGTH);
+    }
+    if left.len() - HEAD_BYTES < bytes {
+        return refused(MISSING);
+    }
+    Part {
+        number: 0,
+        bytes,
+    }
+}
+
+// Bytes laid at a place; where the next ones go.
+pub fn put(destination: &mut [u8], at: usize, body: &[u8]) -> usize
+    requires { ⌜ at + length (now body) ≤ length (now destination) ⌝ }
+    ensures { λ r. ⌜ r ≡ at + length (now (body .entry)) ⌝ }
+    ensures { λ _. ⌜ now (destination .exit) ≡ laidAt at (now (body .entry)) (now (destination .entry)) ⌝ }
+{
+    for i in 0..body.len() {
+        destination[at + i] = body[i];
+    }
+    at + body.len()
+}
+
+// A field laid at a place; where the next one goes.
+pub fn put_field(destination: &mut [u8], at: usize, tag: u8, body: &[u8]) -> usize
+    requires { ⌜ at + 3 + length (now body) ≤ length (now destination) ⌝ }
+    requires { ⌜ length (now body) < 65536 ⌝ }
+    ensures { λ r. ⌜ r ≡ at + 3 + length (now (body .entry)) ⌝ }
+    ensures { λ _. ⌜ now (destination .exit) ≡ laidAt at (field tag (now (body .entry))) (now (destination .entry)) ⌝ }
+{
+    let n = body.len();
+    let head = [tag, (n / 256) as u8, (n % 256) as u8];
+    let at = put(destination, at, &head);
+    put(destination, at, body)
+}

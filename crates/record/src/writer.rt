@@ -1,0 +1,6 @@
+// The writer.
+#[repr(C)]
+pub struct Written {
+    pub number: u8,
+    pub length: usize,
+}
