@@ -1,11 +1,11 @@
--- `piverrone::parcel::open` meets its contract: a file is its ciphertext and then its tag; the contract of `deoxys::open`.
+-- `parcels::open` meets its contract: a file is its ciphertext and then its tag; the contract of `deoxys::open`.
 -- Assumes nothing.
 use mathlib.Core.Path.{sym}
 use lib.Seq.{length-take-le}
 use borrow.Author.Needs.{needs}
-use Rattle.piverrone.proofs.Opening.{parcel-opened}
-use Rattle.piverrone.proofs.parcel.open.Statement.{statement}
-use Rattle.piverrone.proofs.parcel.open.Tie as tie
+use Rattle.parcels.proofs.Opening.{parcel-opened}
+use Rattle.parcels.proofs.open.Statement.{statement}
+use Rattle.parcels.proofs.open.Tie as tie
 
 tag-at-requires : tie.Need-tag-at-requires
 tag-at-requires c κs = search needs

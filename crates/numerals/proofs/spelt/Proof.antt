@@ -1,4 +1,4 @@
--- `piverrone::numbers::spelt` meets its contract: after i turns the value is what i digits spell, or one above the limit.
+-- `numerals::spelt` meets its contract: after i turns the value is what i digits spell, or one above the limit.
 -- Assumes nothing.
 use mathlib.Core.Logic.{inl, inr}
 use mathlib.Core.Path.{_≡_}
@@ -6,9 +6,9 @@ use Prim.Native.Nat.{_-_}
 use native.Mathlib.Omega.{arith}
 use lib.ListN.{length}
 use borrow.Author.Needs.{needs}
-use Rattle.piverrone.proofs.Spelling.{Reading, reading-start, reading-turn, no-digit, reading-end}
-use Rattle.piverrone.proofs.numbers.spelt.Statement.{statement}
-use Rattle.piverrone.proofs.numbers.spelt.Tie as tie
+use Rattle.numerals.proofs.Spelling.{Reading, reading-start, reading-turn, no-digit, reading-end}
+use Rattle.numerals.proofs.spelt.Statement.{statement}
+use Rattle.numerals.proofs.spelt.Tie as tie
 
 abbrev Inv-loop : tie.InvT-loop
 Inv-loop text value₀ i₀ i-end value i = (i-end ≡ length text) × Reading text value i

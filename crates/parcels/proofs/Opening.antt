@@ -9,7 +9,7 @@ use lib.Seq.{take-at, drop-at, take-length, length-take-le}
 use Rattle.octets.proofs.Parts.{rest-is}
 use Rattle.deoxys.specs.Entry.{Opening, opening}
 use Rattle.deoxys.specs.declared.Opened.{Opened}
-use Rattle.piverrone.specs.Parcels.{tagAt, cipherIn, tagIn}
+use Rattle.parcels.specs.Parcels.{tagAt, cipherIn, tagIn}
 
 -- the file from a place on, as it is lent
 abbrev rest : List ℕ → ℕ → List ℕ

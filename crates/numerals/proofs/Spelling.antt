@@ -11,7 +11,7 @@ use lib.Dec.{ltb}
 use lib.ListN.{length, getD, drop, drop-of-length-le}
 use lib.Seq.{drop-cons}
 use borrow.Author.Tests.{le-leb, lt-leb, lt-ltb}
-use Rattle.piverrone.specs.Numbers.{isDigit, digits, valueAfter, numberOf}
+use Rattle.numerals.specs.Numbers.{isDigit, digits, valueAfter, numberOf}
 
 -- cutting before or after the other digits is the same
 capped : (most n : ℕ) (text : List ℕ) → min (valueAfter (min n most) text) most ≡ min (valueAfter n text) most

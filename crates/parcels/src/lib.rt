@@ -3,7 +3,7 @@ ghost use mathlib.Core.Path.{_≡_};
 ghost use Prim.Native.Nat.{_-_};
 ghost use lib.ListN.{take, drop};
 ghost use Rattle.deoxys.specs.Entry.{Opening, opening};
-ghost use Rattle.piverrone.specs.Parcels.{tagAt, cipherIn, tagIn};
+ghost use Rattle.parcels.specs.Parcels.{tagAt, cipherIn, tagIn};
 
 const TAG_BYTES: usize = 16;
 

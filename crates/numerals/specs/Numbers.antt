@@ -6,7 +6,7 @@ use Prim.Native.Nat.{ℕ, _+_, _-_, _*_, min}
 use lib.Dec.{leb, ltb}
 use lib.ListN.{length}
 use Rattle.octets.specs.Octets.{pick}
-use Rattle.piverrone.specs.declared.numbers.Number.{Number}
+use Rattle.numerals.specs.declared.Number.{Number}
 
 abbrev pub isDigit : ℕ → Bool
 isDigit c = pick (leb 48 c) (leb c 57) false
