@@ -6,8 +6,8 @@ use crate::script::Script;
 use crate::steps;
 use crate::steps::Run;
 use crate::steps::Wanted;
-use replay::tally::Tally;
-use replay::text;
+use differences::tally::Tally;
+use lists::text;
 
 const BYTES: usize = 256;
 

@@ -1,5 +1,5 @@
 // The numbers in the fields of a line.
-use replay::text;
+use lists::text;
 
 // Above every number that a field spells: the field spells none.
 pub const NONE: usize = 0xffffffff;

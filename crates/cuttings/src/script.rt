@@ -1,7 +1,7 @@
 // Scripts: what is done after begin. Steps stand a comma apart. A step is the bytes of a piece, or `f` for the finish, and then, after a colon,
 // the number that it is answered with, where that is not 0.
-use replay::text;
-use replay::text::Number;
+use lists::text;
+use lists::text::Number;
 
 pub const STEPS: usize = 16;
 

@@ -7,8 +7,8 @@ use crate::script::Script;
 use crate::steps;
 use crate::steps::Run;
 use crate::steps::Wanted;
-use replay::pattern;
-use replay::tally::Tally;
+use differences::pattern;
+use differences::tally::Tally;
 
 // The key and the nonce are bytes of the data too, from these places on.
 const KEY: usize = 0;

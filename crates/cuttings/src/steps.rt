@@ -1,10 +1,10 @@
 // The steps of a script, one after the other on the state that the one before handed back, and each compared.
 use crate::script;
 use crate::script::Script;
+use differences::tally::Seen;
+use differences::tally::Tally;
+use differences::tally::What;
 use pieces::Pieces;
-use replay::tally::Seen;
-use replay::tally::Tally;
-use replay::tally::What;
 use tweakey::Subkeys;
 
 // The calls by their numbers.

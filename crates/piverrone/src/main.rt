@@ -5,7 +5,6 @@
 mod by_pieces;
 mod files;
 mod numbers;
-mod parcel;
 mod places;
 mod words;
 
@@ -92,8 +91,8 @@ fn seal(suite: u8, key: &[u8], nonce: &[u8], ad: &[u8], text: &mut [u8]) {
 
 // OUT is the message.
 fn open(suite: u8, key: &[u8], nonce: &[u8], ad: &[u8], text: &mut [u8]) {
-    let at = parcel::tag_at(text.len());
-    let opened = parcel::open(suite, key, nonce, ad, text);
+    let at = parcels::tag_at(text.len());
+    let opened = parcels::open(suite, key, nonce, ad, text);
     if opened.number != 0 {
         words::refused(opened.number);
         return;

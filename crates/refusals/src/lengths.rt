@@ -1,11 +1,11 @@
 // Calls with the lengths that a line gives, on bytes that follow the pattern.
 ghost use Prim.Native.Nat.{_≤_};
 ghost use lib.ListN.{length};
-use replay::pattern;
-use replay::tally::Seen;
-use replay::tally::Tally;
-use replay::tally::What;
-use replay::text;
+use differences::pattern;
+use differences::tally::Seen;
+use differences::tally::Tally;
+use differences::tally::What;
+use lists::text;
 
 // The calls by their numbers.
 const SEALING: usize = 0;

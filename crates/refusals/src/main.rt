@@ -1,11 +1,11 @@
 // Replays refusals and limits through the library, compares every answer, and writes what it found. The lists are files of `data/`.
 mod lengths;
 
+use differences::pattern;
+use differences::tally::Tally;
+use lists::text;
 use replay::files;
-use replay::pattern;
 use replay::report;
-use replay::tally::Tally;
-use replay::text;
 
 // The greatest length that is not refused, one byte more, and bytes that no call may touch.
 const ROOM: usize = 1048592;

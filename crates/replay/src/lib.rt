@@ -1,7 +1,3 @@
-// What every program that replays a list of cases needs: the text of the list, bytes that follow a pattern, what differs and how often,
-// and the report on it.
+// What every program that replays a list of cases needs of the system: the list's file, and the report on what differed.
 pub mod files;
-pub mod pattern;
 pub mod report;
-pub mod tally;
-pub mod text;

@@ -1,8 +1,8 @@
 // What is written of a list, and of all lists of a program.
 ghost use mathlib.Core.Path.{_≡_};
-use crate::tally::Tally;
-use crate::tally::What;
-use crate::text;
+use differences::tally::Tally;
+use differences::tally::What;
+use lists::text;
 
 fn write(text: &[u8]) {
     io::write_all(libc::STDOUT_FILENO, text);

@@ -1,10 +1,10 @@
 // Replays vectors through the library, compares every answer, and writes what it found. The lists are files of `data/`.
 mod vector;
 
+use differences::tally::Tally;
+use lists::text;
 use replay::files;
 use replay::report;
-use replay::tally::Tally;
-use replay::text;
 
 // One line more, if it is a case.
 fn line(text: &[u8], number: usize, tally: Tally) -> Tally {

@@ -3,10 +3,10 @@ ghost use mathlib.Core.Path.{_≡_};
 ghost use mathlib.Core.List.{_++_};
 ghost use Prim.Native.Nat.{_-_, _≤_, _<_};
 ghost use lib.ListN.{length, replicate};
-use replay::tally::Seen;
-use replay::tally::Tally;
-use replay::tally::What;
-use replay::text;
+use differences::tally::Seen;
+use differences::tally::Tally;
+use differences::tally::What;
+use lists::text;
 
 // The parts of a vector, in the order of a line.
 const KEY: usize = 0;

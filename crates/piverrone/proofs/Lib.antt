@@ -1,2 +1,0 @@
-pub mod Spelling
-pub mod Opening

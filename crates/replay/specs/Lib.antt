@@ -1,3 +1,0 @@
-pub mod Pattern
-pub mod Tally
-pub mod Text
