@@ -1,6 +1,6 @@
 -- Readings one after another: what a refusal stops, and what goes on after a field.
 -- Assumes nothing.
-use mathlib.Core.Path.{_≡_, refl, ap, _∙_}
+use mathlib.Core.Path.{_≡_, refl, sym}
 use mathlib.Core.Bool.{Bool, true, false}
 use mathlib.Core.List.{List, [], _∷_, _++_}
 use Prim.Native.Nat.{ℕ}
@@ -36,3 +36,42 @@ module _ (r : Rule) (rules : List Rule) (s : List ℕ) where
       → takeFields (r ∷ rules) s ≡ andThen (takeFields rules left) (λ bodies after. got (body ∷ bodies) after)
   unfolding takeFields
   go body left e = rw e
+
+pub fields-end : (s : List ℕ) → takeFields [] s ≡ got [] s
+unfolding takeFields
+fields-end s = refl
+
+then-got : {A : Type 0} (x : Read A) → andThen x (λ value left. got value left) ≡ x
+then-got (refused n) = refl
+then-got (got value left) = refl
+
+-- two lists of fields one after the other
+pub fields-join : (first others : List Rule) (s : List ℕ)
+    → takeFields (first ++ others) s
+    ≡ andThen (takeFields first s) (λ bodies left. andThen (takeFields others left) (λ more after. got (bodies ++ more) after))
+unfolding takeFields
+fields-join [] others s = sym (then-got (takeFields others s))
+fields-join (r ∷ first) others s = next (λ left. fields-join first others left) (takeField r s)
+  where
+    next : ((left : List ℕ)
+        → takeFields (first ++ others) left
+        ≡ andThen (takeFields first left) (λ bodies after. andThen (takeFields others after) (λ more end. got (bodies ++ more) end)))
+        → (x : Read (List ℕ))
+        → andThen x (λ body left. andThen (takeFields (first ++ others) left) (λ bodies after. got (body ∷ bodies) after))
+        ≡ andThen (andThen x (λ body left. andThen (takeFields first left) (λ bodies after. got (body ∷ bodies) after)))
+        (λ bodies left. andThen (takeFields others left) (λ more after. got (bodies ++ more) after))
+    next again (refused n) = refl
+    next again (got body left) = rw (again left) (swap (takeFields first left))
+      where
+        inner : (x : Read (List (List ℕ))) (bodies : List (List ℕ))
+            → andThen (andThen x (λ more end. got (bodies ++ more) end)) (λ all after. got (body ∷ all) after)
+            ≡ andThen x (λ more after. got (body ∷ (bodies ++ more)) after)
+        inner (refused n) bodies = refl
+        inner (got more end) bodies = refl
+
+        swap : (x : Read (List (List ℕ)))
+            → andThen (andThen x (λ bodies after. andThen (takeFields others after) (λ more end. got (bodies ++ more) end))) (λ all after. got (body ∷ all) after)
+            ≡ andThen (andThen x (λ bodies after. got (body ∷ bodies) after))
+            (λ bodies left. andThen (takeFields others left) (λ more after. got (bodies ++ more) after))
+        swap (refused n) = refl
+        swap (got bodies after) = inner (takeFields others after) bodies

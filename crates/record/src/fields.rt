@@ -45,7 +45,7 @@ pub struct Part {
     pub bytes: usize,
 }
 
-fn wide(x: u8) -> usize
+pub fn wide(x: u8) -> usize
     ensures { λ r. ⌜ (r ≡ x) × (r < 256) ⌝ }
 {
     x as usize
@@ -76,10 +76,7 @@ pub fn range_refusal(value: usize, greatest: usize) -> u8
 fn refused(number: u8) -> Part
     ensures { λ r. ⌜ r ≡ record { number = number; bytes = 0 } ⌝ }
 {
-    Part {
-        number,
-        bytes: 0,
-    }
+    Part { number, bytes: 0 }
 }
 
 // The field that the bytes left begin with, all but its range.
@@ -102,10 +99,7 @@ pub fn read_field(left: &[u8], tag: u8, least: usize, greatest: usize) -> Part
     if left.len() - HEAD_BYTES < bytes {
         return refused(MISSING);
     }
-    Part {
-        number: 0,
-        bytes,
-    }
+    Part { number: 0, bytes }
 }
 
 // Bytes laid at a place; where the next ones go.

@@ -10,6 +10,7 @@ use crate::fields;
 use crate::fields::pair;
 use crate::fields::range_refusal;
 use crate::fields::read_field;
+use crate::fields::wide;
 
 const TOO_MANY: u8 = 15;
 
@@ -46,3 +47,153 @@ struct Texts {
     cipher: usize,
 }
 
+fn no_record(number: u8) -> Record
+    ensures { λ r. ⌜ r ≡ noRecord number ⌝ }
+{
+    Record {
+        number,
+        suite: 0,
+        row: 0,
+        nonce: 0,
+        nonce_length: 0,
+        note: 0,
+        note_length: 0,
+        cipher: 0,
+        cipher_length: 0,
+        tag: 0,
+        length: 0,
+    }
+}
+
+// The fields of suite and row, which take nine bytes.
+fn head_refusal(left: &[u8]) -> u8
+    ensures { λ r. ⌜ HeadRead (now (left .entry)) r ⌝ }
+{
+    let suite = read_field(left, fields::SUITE, 1, 1);
+    if suite.number != 0 {
+        return suite.number;
+    }
+    let range = range_refusal(wide(left[3]), fields::MOST_SUITE);
+    if range != 0 {
+        return range;
+    }
+    let row = read_field(&left[4..], fields::ROW, 2, 2);
+    if row.number != 0 {
+        return row.number;
+    }
+    range_refusal(pair(left, 7), fields::MOST_ROW)
+}
+
+fn no_texts(number: u8) -> Texts
+    ensures { λ r. ⌜ r ≡ record { number = number; note = 0; cipher = 0 } ⌝ }
+{
+    Texts {
+        number,
+        note: 0,
+        cipher: 0,
+    }
+}
+
+// The fields of nonce, note, ciphertext and tag.
+fn read_texts(left: &[u8], nonce: usize) -> Texts
+    ensures { λ r. ⌜ TextsRead nonce (now (left .entry)) r ⌝ }
+{
+    let first = read_field(left, fields::NONCE, nonce, nonce);
+    if first.number != 0 {
+        return no_texts(first.number);
+    }
+    let at = 3 + first.bytes;
+    let note = read_field(&left[at..], fields::NOTE, 0, fields::MOST_NOTE);
+    if note.number != 0 {
+        return no_texts(note.number);
+    }
+    let at = at + 3 + note.bytes;
+    let cipher = read_field(&left[at..], fields::CIPHER, 0, fields::MOST_CIPHER);
+    if cipher.number != 0 {
+        return no_texts(cipher.number);
+    }
+    let at = at + 3 + cipher.bytes;
+    let tag = read_field(
+        &left[at..],
+        fields::TAG,
+        fields::TAG_BYTES,
+        fields::TAG_BYTES,
+    );
+    if tag.number != 0 {
+        return no_texts(tag.number);
+    }
+    Texts {
+        number: 0,
+        note: note.bytes,
+        cipher: cipher.bytes,
+    }
+}
+
+// The record that the bytes left begin with; its place is that of the bytes left.
+fn read_left(left: &[u8], at: usize) -> Record
+    requires { ⌜ at + length (now left) < 2 ^ 64 ⌝ }
+    ensures { λ r. ⌜ r ≡ answerAt at (takeRecord (now (left .entry))) ⌝ }
+{
+    let number = head_refusal(left);
+    if number != 0 {
+        return no_record(number);
+    }
+    let suite = left[3];
+    let nonce_length = suites::nonce_length(suite);
+    let texts = read_texts(&left[9..], nonce_length);
+    if texts.number != 0 {
+        return no_record(texts.number);
+    }
+    let note = at + 15 + nonce_length;
+    let cipher = note + texts.note + 3;
+    let tag = cipher + texts.cipher + 3;
+    Record {
+        number: 0,
+        suite,
+        row: pair(left, 7) as u16,
+        nonce: at + 12,
+        nonce_length,
+        note,
+        note_length: texts.note,
+        cipher,
+        cipher_length: texts.cipher,
+        tag,
+        length: tag + fields::TAG_BYTES - at,
+    }
+}
+
+// The record at a place. Past the end there are no bytes left, as at the end.
+pub fn read(bytes: &[u8], at: usize) -> Record
+    ensures { λ r. ⌜ ReadAllows (now (bytes .entry)) at r ⌝ }
+{
+    if bytes.len() < at {
+        return no_record(fields::MISSING);
+    }
+    read_left(&bytes[at..], at)
+}
+
+fn no_bundle(number: u8) -> Bundle
+    ensures { λ r. ⌜ r ≡ record { number = number; records = 0 } ⌝ }
+{
+    Bundle { number, records: 0 }
+}
+
+// The records one after another, to the last byte.
+pub fn read_bundle(bytes: &[u8]) -> Bundle
+    ensures { λ r. ⌜ BundleAllows (now (bytes .entry)) r ⌝ }
+{
+    let mut at = 0;
+    let mut records = 0;
+    while at < bytes.len() {
+        if records == MOST_RECORDS {
+            return no_bundle(TOO_MANY);
+        }
+        let record = read(bytes, at);
+        if record.number != 0 {
+            return no_bundle(record.number);
+        }
+        at = at + record.length;
+        records = records + 1;
+    }
+    Bundle { number: 0, records }
+}

@@ -1,41 +1,29 @@
+-- `record::fields::put_field` meets its contract: the head is laid, and then the bytes where it ends.
+-- Assumes nothing.
 use Rattle.record.proofs.Laying.{laid-field}
-use mathlib.Core.Path.{_≡_, refl, sym, ap, _∙_}
-use mathlib.Core.List.{List, [], _∷_, _++_}
-use Prim.Native.Nat.{ℕ, zero, suc, _+_, _-_, _*_, _/_, _%_, _≤_, _<_}
-use native.Mathlib.Omega.{arith}
-use lib.ListN.{length, take, drop, getD, set}
+use mathlib.Core.Path.{refl}
 use borrow.Author.Needs.{needs}
 use Rattle.record.proofs.fields.put_field.Statement.{statement}
 use Rattle.record.proofs.fields.put_field.Tie as tie
-use Rattle.record.proofs.fields.put_field.Reads as reads
-use Rattle.record.proofs.fields.put_field.Lts as lts
-use Rattle.record.proofs.fields.put.Reads as put-reads
 
--- src/fields.rt:131:22
 cast-t9 : tie.Need-cast-t9
 cast-t9 c = search needs
 
--- src/fields.rt:131:39
 cast-t11 : tie.Need-cast-t11
 cast-t11 c = search needs
 
--- src/fields.rt:132:35
 slice-aggregate-put : tie.Need-slice-aggregate-put
 slice-aggregate-put c = search needs
 
--- src/fields.rt:132:9
 put-requires : tie.Need-put-requires
 put-requires c κs = search needs
 
--- src/fields.rt:133:5
 put-requires-2 : tie.Need-put-requires-2
 put-requires-2 c κs = search needs
 
--- src/fields.rt:124:1
 same-length : tie.Need-same-length
 same-length c = search needs
 
--- src/fields.rt:124:1
 returns : tie.Need-returns
 returns c = let a = c .before .before .before .before .before .before .before .before .before .before .before .args in (rw (c .before .before .put2 .ensures .0, c .before .before .before .before .before .before .put .ensures .0), laid-field (a .destination .now) _ _ (a .body .now) (a .at) _ (a .tag) _ _ (search needs) (search needs) (c .before .before .before .before .before .before .put .ensures .0) (c .before .before .before .before .before .before .put .ensures .1) (c .before .before .put2 .ensures .1) refl refl)
 

@@ -1,0 +1,107 @@
+-- `record::reader::read_left` meets its contract: the head's number, the texts' number, or the record and its places.
+-- Assumes nothing.
+use Rattle.record.proofs.RecordAt.{head-refused, texts-refused, record-read}
+use lib.ListN.{length-drop}
+use Rattle.octets.proofs.Parts.{rest-is}
+use mathlib.Core.Path.{refl}
+use native.Mathlib.Omega.{arith}
+use borrow.Author.Needs.{needs}
+use Rattle.record.proofs.reader.read_left.Statement.{statement}
+use Rattle.record.proofs.reader.read_left.Tie as tie
+
+head-refusal-requires : tie.Need-head-refusal-requires
+head-refusal-requires c κs = search needs
+
+no-record-requires : tie.Need-no-record-requires
+no-record-requires c κs = search needs
+
+returns : tie.Need-returns
+returns c = rw (c .no-record .ensures) (head-refused _ _ (c .before .before .head-refusal .ensures) _ (c .before .if1 .taken))
+
+shared-slice-read-suite : tie.Need-shared-slice-read-suite
+shared-slice-read-suite c = let h = c .before .before .head-refusal .ensures .within (c .before .if1 .left) in search (h, needs)
+
+nonce-length-requires : tie.Need-nonce-length-requires
+nonce-length-requires c κs = search needs
+
+sub-read-texts : tie.Need-sub-read-texts
+sub-read-texts c = let h = c .before .before .before .head-refusal .ensures .within (c .before .before .if1 .left) in search (h, needs)
+
+part-read-texts-start : tie.Need-part-read-texts-start
+part-read-texts-start c = let h = c .before .before .before .head-refusal .ensures .within (c .before .before .if1 .left) in search (h, needs)
+
+part-read-texts-end : tie.Need-part-read-texts-end
+part-read-texts-end c = search needs
+
+read-texts-requires : tie.Need-read-texts-requires
+read-texts-requires c κs = search needs
+
+no-record-requires-2 : tie.Need-no-record-requires-2
+no-record-requires-2 c κs = search needs
+
+returns-2 : tie.Need-returns-2
+returns-2 c = rw (c .no-record2 .ensures) (let s = c .before .before .before .before .before .before .before .before .before .before .args .left .now in let g = rw (rest-is s 9, c .before .before .before .before .before .nonce-length .ensures) at (c .before .before .before .read-texts .ensures) in texts-refused s _ (c .before .before .before .before .before .before .before .before .head-refusal .ensures) (c .before .before .before .before .before .before .before .before .before .before .args .at) (c .before .before .before .before .before .before .before .if1 .left) _ g (c .before .if2 .taken))
+
+add-note : tie.Need-add-note
+add-note c = let s = c .before .before .before .before .before .before .before .before .before .args .left .now in let h = c .before .before .before .before .before .before .before .head-refusal .ensures .within (c .before .before .before .before .before .before .if1 .left) in let w = rw (rest-is s 9, length-drop 9 s) at (c .before .before .read-texts .ensures .within (c .if2 .left)) in let p = c .before .before .before .before .before .before .before .before .before .pre in search (h, w, p, needs)
+
+add-note-2 : tie.Need-add-note-2
+add-note-2 c = let s = c .before .before .before .before .before .before .before .before .before .args .left .now in let h = c .before .before .before .before .before .before .before .head-refusal .ensures .within (c .before .before .before .before .before .before .if1 .left) in let w = rw (rest-is s 9, length-drop 9 s) at (c .before .before .read-texts .ensures .within (c .if2 .left)) in let p = c .before .before .before .before .before .before .before .before .before .pre in search (h, w, p, needs)
+
+add-cipher : tie.Need-add-cipher
+add-cipher c = let s = c .before .before .before .before .before .before .before .before .before .before .args .left .now in let h = c .before .before .before .before .before .before .before .before .head-refusal .ensures .within (c .before .before .before .before .before .before .before .if1 .left) in let w = rw (rest-is s 9, length-drop 9 s) at (c .before .before .before .read-texts .ensures .within (c .before .if2 .left)) in let p = c .before .before .before .before .before .before .before .before .before .before .pre in search (h, w, p, needs)
+
+add-cipher-2 : tie.Need-add-cipher-2
+add-cipher-2 c = let s = c .before .before .before .before .before .before .before .before .before .before .args .left .now in let h = c .before .before .before .before .before .before .before .before .head-refusal .ensures .within (c .before .before .before .before .before .before .before .if1 .left) in let w = rw (rest-is s 9, length-drop 9 s) at (c .before .before .before .read-texts .ensures .within (c .before .if2 .left)) in let p = c .before .before .before .before .before .before .before .before .before .before .pre in search (h, w, p, needs)
+
+add-tag : tie.Need-add-tag
+add-tag c = let s = c .before .before .before .before .before .before .before .before .before .before .before .args .left .now in let h = c .before .before .before .before .before .before .before .before .before .head-refusal .ensures .within (c .before .before .before .before .before .before .before .before .if1 .left) in let w = rw (rest-is s 9, length-drop 9 s) at (c .before .before .before .before .read-texts .ensures .within (c .before .before .if2 .left)) in let p = c .before .before .before .before .before .before .before .before .before .before .before .pre in search (h, w, p, needs)
+
+add-tag-2 : tie.Need-add-tag-2
+add-tag-2 c = let s = c .before .before .before .before .before .before .before .before .before .before .before .args .left .now in let h = c .before .before .before .before .before .before .before .before .before .head-refusal .ensures .within (c .before .before .before .before .before .before .before .before .if1 .left) in let w = rw (rest-is s 9, length-drop 9 s) at (c .before .before .before .before .read-texts .ensures .within (c .before .before .if2 .left)) in let p = c .before .before .before .before .before .before .before .before .before .before .before .pre in search (h, w, p, needs)
+
+pair-requires : tie.Need-pair-requires
+pair-requires c κs = let h = c .before .before .before .before .before .before .before .before .before .head-refusal .ensures .within (c .before .before .before .before .before .before .before .before .if1 .left) in search (h, needs)
+
+cast-t17 : tie.Need-cast-t17
+cast-t17 c = search needs
+
+add-t18 : tie.Need-add-t18
+add-t18 c = let s = c .before .before .before .before .before .before .before .before .before .before .before .before .args .left .now in let h = c .before .before .before .before .before .before .before .before .before .before .head-refusal .ensures .within (c .before .before .before .before .before .before .before .before .before .if1 .left) in let w = rw (rest-is s 9, length-drop 9 s) at (c .before .before .before .before .before .read-texts .ensures .within (c .before .before .before .if2 .left)) in let p = c .before .before .before .before .before .before .before .before .before .before .before .before .pre in search (h, w, p, needs)
+
+add-t19 : tie.Need-add-t19
+add-t19 c = let s = c .before .before .before .before .before .before .before .before .before .before .before .before .args .left .now in let h = c .before .before .before .before .before .before .before .before .before .before .head-refusal .ensures .within (c .before .before .before .before .before .before .before .before .before .if1 .left) in let w = rw (rest-is s 9, length-drop 9 s) at (c .before .before .before .before .before .read-texts .ensures .within (c .before .before .before .if2 .left)) in let p = c .before .before .before .before .before .before .before .before .before .before .before .before .pre in search (h, w, p, needs)
+
+sub-t20 : tie.Need-sub-t20
+sub-t20 c = search needs
+
+returns-3 : tie.Need-returns-3
+returns-3 c = let s = c .before .before .before .before .before .before .before .before .before .before .before .before .args .left .now in let g = rw (rest-is s 9, c .before .before .before .before .before .before .before .nonce-length .ensures) at (c .before .before .before .before .before .read-texts .ensures) in record-read s _ (c .before .before .before .before .before .before .before .before .before .before .head-refusal .ensures) (c .before .before .before .before .before .before .before .before .before .before .before .before .args .at) (c .before .before .before .before .before .before .before .before .before .if1 .left) _ g (c .before .before .before .if2 .left) _ _ _ _ _ _ _ (c .before .before .before .before .before .before .before .nonce-length .ensures) (c .pair .ensures .0) refl refl (omega arith) (omega arith) (omega arith)
+
+pub read-left-spec : {M : Type 1} → statement M
+read-left-spec =
+    tie.close
+    (tie.spec
+    head-refusal-requires
+    no-record-requires
+    returns
+    shared-slice-read-suite
+    nonce-length-requires
+    sub-read-texts
+    part-read-texts-start
+    part-read-texts-end
+    read-texts-requires
+    no-record-requires-2
+    returns-2
+    add-note
+    add-note-2
+    add-cipher
+    add-cipher-2
+    add-tag
+    add-tag-2
+    pair-requires
+    cast-t17
+    add-t18
+    add-t19
+    sub-t20
+    returns-3)

@@ -1,0 +1,80 @@
+-- `record::writer::write` meets its contract: refused by the fields, refused for want of room, or laid.
+-- Assumes nothing.
+use Rattle.record.proofs.WholeRecord.{nonce-short}
+use Rattle.record.proofs.Sizes.{written-length}
+use Rattle.record.specs.HouseRecord.{Content, written, writing}
+use Rattle.record.proofs.Writings.{head-refuses, texts-refuse, fit, refused-out, short-out, done-out}
+use mathlib.Core.Path.{sym, _∙_}
+use native.Mathlib.Omega.{arith}
+use borrow.Author.Needs.{needs}
+use Rattle.record.proofs.writer.write.Statement.{statement}
+use Rattle.record.proofs.writer.write.Tie as tie
+
+head-refusal-requires : tie.Need-head-refusal-requires
+head-refusal-requires c κs = search needs
+
+refused-requires : tie.Need-refused-requires
+refused-requires c κs = search needs
+
+returns : tie.Need-returns
+unfolding writing
+returns c = let a = c .before .before .before .before .before .before .before .before .args in let x : Content = record { suite = a .suite; row = a .row; nonce = a .nonce .now; note = a .note .now; cipher = a .cipher .now; tag = a .tag .now } in rw (c .refused .ensures) (refused-out _ (written x) _ _ (head-refuses x _ (c .before .before .head-refusal .ensures) (c .before .if1 .taken)) (c .before .if1 .taken))
+
+nonce-length-requires : tie.Need-nonce-length-requires
+nonce-length-requires c κs = search needs
+
+texts-refusal-requires : tie.Need-texts-refusal-requires
+texts-refusal-requires c κs = search needs
+
+refused-requires-2 : tie.Need-refused-requires-2
+refused-requires-2 c κs = search needs
+
+returns-2 : tie.Need-returns-2
+unfolding writing
+returns-2 c = let a = c .before .before .before .before .before .before .before .before .before .before .before .args in let x : Content = record { suite = a .suite; row = a .row; nonce = a .nonce .now; note = a .note .now; cipher = a .cipher .now; tag = a .tag .now } in rw (c .refused2 .ensures) (refused-out _ (written x) _ _ (texts-refuse x _ (c .before .before .before .before .before .head-refusal .ensures) (c .before .before .before .before .if1 .left) _ (rw (c .before .before .before .nonce-length .ensures) at (c .before .before .texts-refusal .ensures))) (c .before .if2 .taken))
+
+add-length : tie.Need-add-length
+add-length c = search needs
+
+add-length-2 : tie.Need-add-length-2
+add-length-2 c = let f = fit _ _ _ _ _ (sym (c .before .texts-refusal .ensures) ∙ c .if2 .left) in let n = f .of-nonce in let h = f .of-note in search (n, h, needs)
+
+add-length-3 : tie.Need-add-length-3
+add-length-3 c = let f = fit _ _ _ _ _ (sym (c .before .texts-refusal .ensures) ∙ c .if2 .left) in let n = f .of-note in let h = f .of-cipher in search (n, h, needs)
+
+refused-requires-3 : tie.Need-refused-requires-3
+refused-requires-3 c κs = search needs
+
+returns-3 : tie.Need-returns-3
+unfolding writing
+returns-3 c = let a = c .before .before .before .before .before .before .before .before .before .before .before .before .args in let x : Content = record { suite = a .suite; row = a .row; nonce = a .nonce .now; note = a .note .now; cipher = a .cipher .now; tag = a .tag .now } in let z = sym (texts-refuse x _ (c .before .before .before .before .before .before .head-refusal .ensures) (c .before .before .before .before .before .if1 .left) _ (rw (c .before .before .before .before .nonce-length .ensures) at (c .before .before .before .texts-refusal .ensures))) ∙ c .before .before .if2 .left in let f = fit _ _ _ _ _ (sym (c .before .before .before .texts-refusal .ensures) ∙ c .before .before .if2 .left) in let w = written-length x in rw (c .refused3 .ensures) (short-out _ (written x) _ z (omega (arith, w, f .of-tag, c .before .if3 .taken)))
+
+lay-requires : tie.Need-lay-requires
+lay-requires c κs = let f = fit _ _ _ _ _ (sym (c .before .before .before .texts-refusal .ensures) ∙ c .before .before .if2 .left) in let n = f .of-nonce in let h = f .of-note in let k = f .of-cipher in let t = f .of-tag in let m = nonce-short (c .before .before .before .before .before .before .before .before .before .before .before .before .args .suite) in let q = c .before .before .before .before .nonce-length .ensures in search (n, h, k, t, m, q, needs)
+
+same-length : tie.Need-same-length
+same-length c = search needs
+
+returns-4 : tie.Need-returns-4
+unfolding writing
+returns-4 c = let a = c .before .before .before .before .before .before .before .before .before .before .before .before .before .before .before .args in let x : Content = record { suite = a .suite; row = a .row; nonce = a .nonce .now; note = a .note .now; cipher = a .cipher .now; tag = a .tag .now } in let z = sym (texts-refuse x _ (c .before .before .before .before .before .before .before .before .before .head-refusal .ensures) (c .before .before .before .before .before .before .before .before .if1 .left) _ (rw (c .before .before .before .before .before .before .before .nonce-length .ensures) at (c .before .before .before .before .before .before .texts-refusal .ensures))) ∙ c .before .before .before .before .before .if2 .left in let f = fit _ _ _ _ _ (sym (c .before .before .before .before .before .before .texts-refusal .ensures) ∙ c .before .before .before .before .before .if2 .left) in let w = written-length x in done-out _ (written x) _ z _ _ (omega (arith, w, f .of-tag)) (c .before .before .lay .ensures) (omega (arith, w, f .of-tag, c .before .before .before .before .if3 .left))
+
+pub write-spec : {M : Type 1} → statement M
+write-spec =
+    tie.close
+    (tie.spec
+    head-refusal-requires
+    refused-requires
+    returns
+    nonce-length-requires
+    texts-refusal-requires
+    refused-requires-2
+    returns-2
+    add-length
+    add-length-2
+    add-length-3
+    refused-requires-3
+    returns-3
+    lay-requires
+    same-length
+    returns-4)
