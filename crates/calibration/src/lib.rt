@@ -65,13 +65,13 @@ pub extern "C" fn calibration_write_record(
     destination: &mut [u8],
 ) -> record::writer::Written
     ensures { λ r. ⌜ WriteAllows (record {
-        suite = suite;
-        row = row;
-        nonce = now (nonce .entry);
-        note = now (note .entry);
-        cipher = now (cipher .entry);
-        tag = now (tag .entry);
-      }) (now (destination .entry)) (record { answer = r; destination = now (destination .exit) }) ⌝ }
+      suite = suite;
+      row = row;
+      nonce = now (nonce .entry);
+      note = now (note .entry);
+      cipher = now (cipher .entry);
+      tag = now (tag .entry);
+    }) (now (destination .entry)) (record { answer = r; destination = now (destination .exit) }) ⌝ }
 {
     record::writer::write(suite, row, nonce, note, cipher, tag, destination)
 }

@@ -12,9 +12,9 @@ use lib.Seq.{drop-drop}
 use borrow.Author.Tests.{ne-eqb}
 use Rattle.record.specs.declared.reader.Record.{Record}
 use Rattle.record.specs.declared.reader.Bundle.{Bundle}
-use Rattle.record.specs.Fields.{Read, refused, got, andThen}
+use Rattle.fields.specs.Fields.{Read, refused, got, andThen}
 use Rattle.record.specs.HouseRecord.{Content, written, takeRecord, takeRecords, foundAt, answerAt, reading, counted, bundleReading}
-use Rattle.record.proofs.Accepting.{NotZero}
+use Rattle.fields.proofs.Accepting.{NotZero}
 use Rattle.record.proofs.WholeRecord.{record-not-zero, took-record}
 
 -- ---- what the reader's answer says

@@ -8,13 +8,14 @@ use native.Mathlib.Nat.{suc-ne-zero}
 use native.Mathlib.Omega.{arith}
 use lib.ListN.{length, drop, getD}
 use Rattle.octets.specs.Octets.{pick}
-use Rattle.record.specs.declared.fields.Part.{Part}
-use Rattle.record.specs.Fields.{between, number2, refused, got, andThen, takeFields}
+use Rattle.fields.specs.declared.Part.{Part}
+use Rattle.fields.specs.Fields.{between, number2, refused, got, andThen, takeFields}
 use Rattle.record.specs.HouseRecord.{suiteRule, rowRule, rowOf}
-use Rattle.record.specs.Parts.{part, FieldRead, HeadRead}
-use Rattle.record.proofs.FieldAt.{part-at, field-refused, field-got, field-out, field-end}
-use Rattle.record.proofs.Ranges.{in-range, out-of-range}
-use Rattle.record.proofs.Readings.{answered-refused, stop, go, fields-end}
+use Rattle.fields.specs.Answers.{part, FieldRead}
+use Rattle.record.specs.Parts.{HeadRead}
+use Rattle.fields.proofs.FieldAt.{part-at, field-refused, field-got, field-out, field-end}
+use Rattle.fields.proofs.Ranges.{in-range, out-of-range}
+use Rattle.fields.proofs.Readings.{answered-refused, stop, go, fields-end}
 
 module _ (s : List ℕ) where
   no-head : (n : ℕ) → (n ≡ 0 → ⊥) → takeFields (suiteRule ∷ rowRule ∷ []) s ≡ refused n → HeadRead s n

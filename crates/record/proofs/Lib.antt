@@ -1,13 +1,7 @@
-pub mod Readings
-pub mod OneField
-pub mod Ranges
-pub mod FieldAt
 pub mod Heads
 pub mod TextFields
 pub mod Sizes
 pub mod RecordAt
-pub mod Laying
-pub mod Accepting
 pub mod WholeRecord
 pub mod Bundles
 pub mod Writings

@@ -8,11 +8,12 @@ use lib.ListN.{length, drop, getD, drop-of-length-le}
 use Rattle.suites.specs.Suites.{nonceLength}
 use Rattle.record.specs.declared.reader.Record.{Record}
 use Rattle.record.specs.declared.reader.Texts.{Texts}
-use Rattle.record.specs.Fields.{number2, Read, refused, got, andThen, takeField, takeFields}
+use Rattle.fields.specs.Fields.{number2, Read, refused, got, andThen, takeField, takeFields}
 use Rattle.record.specs.HouseRecord.{suiteRule, rowRule, textRules, Content, contentOf, takeRecord, noRecord, foundAt, answerAt, reading}
-use Rattle.record.specs.Parts.{part, HeadRead, TextsRead}
-use Rattle.record.proofs.FieldAt.{part-at, part-length}
-use Rattle.record.proofs.Readings.{answered-got, answered-refused, fields-join}
+use Rattle.fields.specs.Answers.{part}
+use Rattle.record.specs.Parts.{HeadRead, TextsRead}
+use Rattle.fields.proofs.FieldAt.{part-at, part-length}
+use Rattle.fields.proofs.Readings.{answered-got, answered-refused, fields-join}
 use Rattle.record.proofs.Sizes.{written-length}
 
 -- what is told of a content, in numbers

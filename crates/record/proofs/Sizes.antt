@@ -5,7 +5,7 @@ use Prim.Native.Nat.{_+_}
 use native.Mathlib.Omega.{arith}
 use lib.ListN.{length, length-append}
 use Rattle.octets.specs.Octets.{bigEndian}
-use Rattle.record.specs.Fields.{field, fields}
+use Rattle.fields.specs.Fields.{field, fields}
 use Rattle.record.specs.HouseRecord.{Content, written}
 
 pub written-length : (c : Content) → length (written c) ≡ 21 + length (c .nonce) + length (c .note) + length (c .cipher) + length (c .tag)

@@ -5,12 +5,13 @@ use mathlib.Core.List.{List, [], _∷_}
 use Prim.Native.Nat.{ℕ, _+_, _≤_}
 use native.Mathlib.Omega.{arith}
 use lib.ListN.{length, drop}
-use Rattle.record.specs.declared.fields.Part.{Part}
-use Rattle.record.specs.Fields.{Rule, Read, refused, got, andThen, takeFields}
-use Rattle.record.specs.HouseRecord.{plain, noteRule, textRules}
-use Rattle.record.specs.Parts.{part, FieldRead, TextsRead}
-use Rattle.record.proofs.FieldAt.{field-refused, field-got, field-end}
-use Rattle.record.proofs.Readings.{answered-refused, stop, go, fields-end}
+use Rattle.fields.specs.declared.Part.{Part}
+use Rattle.fields.specs.Fields.{Rule, Read, refused, got, andThen, takeFields, plain}
+use Rattle.record.specs.HouseRecord.{noteRule, textRules}
+use Rattle.fields.specs.Answers.{part, FieldRead}
+use Rattle.record.specs.Parts.{TextsRead}
+use Rattle.fields.proofs.FieldAt.{field-refused, field-got, field-end}
+use Rattle.fields.proofs.Readings.{answered-refused, stop, go, fields-end}
 
 -- a list of fields at a place: its first field, and then the others at the place after it
 module _ (tag least greatest : ℕ) (rules : List Rule) (s : List ℕ) (at : ℕ) (p : Part) (f : FieldRead tag least greatest (drop at s) p) where

@@ -12,11 +12,11 @@ use borrow.Author.Tests.{eq-eqb, ne-eqb, le-leb, lt-leb, eqb-true, leb-true, leb
 use Rattle.octets.specs.Octets.{pick, bigEndian}
 use Rattle.octets.proofs.Parts.{put-length}
 use Rattle.suites.specs.Suites.{nonceLength}
-use Rattle.record.specs.Fields.{Rule, between, field, fields, fieldRefusal, fieldsRefusal}
-use Rattle.record.specs.HouseRecord.{suiteRule, rowRule, noteRule, textRules, rules, plain, Content, bodies, written, rowData, Writing, laidOut}
-use Rattle.record.specs.Parts.{laidAt}
-use Rattle.record.proofs.Accepting.{both, tested}
-use Rattle.record.proofs.Laying.{laid-next, field-length}
+use Rattle.fields.specs.Fields.{Rule, between, field, fields, fieldRefusal, fieldsRefusal, plain}
+use Rattle.record.specs.HouseRecord.{suiteRule, rowRule, noteRule, textRules, rules, Content, bodies, written, rowData, Writing, laidOut}
+use Rattle.fields.specs.Answers.{laidAt}
+use Rattle.fields.proofs.Accepting.{both, tested}
+use Rattle.fields.proofs.Laying.{laid-next, field-length}
 use Rattle.record.proofs.WholeRecord.{row-back, exactly}
 
 -- ---- the fields' numbers

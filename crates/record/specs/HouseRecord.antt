@@ -1,7 +1,6 @@
--- The house record, and a bundle of them: document 02, request b. The fields' own rules are in specs/Fields.
+-- The house record, and a bundle of them: document 02, request b. What a field is, and the order of its checks, is in crates/fields/specs/Fields.
 -- Assumes nothing.
 use mathlib.Core.Path.{_≡_}
-use mathlib.Core.Bool.{true}
 use mathlib.Core.List.{List, [], _∷_, _++_}
 use Prim.Native.Nat.{ℕ, zero, suc, _+_}
 use lib.Dec.{eqb, leb}
@@ -11,12 +10,9 @@ use Rattle.suites.specs.Suites.{nonceLength}
 use Rattle.record.specs.declared.writer.Written.{Written}
 use Rattle.record.specs.declared.reader.Record.{Record}
 use Rattle.record.specs.declared.reader.Bundle.{Bundle}
-use Rattle.record.specs.Fields.{between, number2, Rule, Read, refused, got, andThen, takeFields, fields, fieldsRefusal}
+use Rattle.fields.specs.Fields.{between, number2, Rule, plain, Read, refused, got, andThen, takeFields, fields, fieldsRefusal}
 
 -- ---- the six fields, ascending
-
-abbrev pub plain : ℕ → ℕ → ℕ → Rule
-plain tag least greatest = record { tag = tag; least = least; greatest = greatest; inRange = λ body. true }
 
 -- the two row bytes as a number
 abbrev pub rowOf : List ℕ → ℕ

@@ -1,4 +1,4 @@
-// The house record, request b of document 02: fields of a tag, a length and bytes, six to a record, up to 64 records to a bundle.
-mod fields;
+// The house record, request b of document 02: six fields to a record, up to 64 records to a bundle.
+mod house;
 pub mod reader;
 pub mod writer;

@@ -6,11 +6,11 @@ ghost use lib.ListN.{length};
 ghost use Rattle.suites.specs.Suites.{nonceLength};
 ghost use Rattle.record.specs.HouseRecord.{takeRecord, noRecord, answerAt, ReadAllows, BundleAllows};
 ghost use Rattle.record.specs.Parts.{HeadRead, TextsRead};
-use crate::fields;
-use crate::fields::pair;
-use crate::fields::range_refusal;
-use crate::fields::read_field;
-use crate::fields::wide;
+use crate::house;
+use fields::pair;
+use fields::range_refusal;
+use fields::read_field;
+use fields::wide;
 
 const TOO_MANY: u8 = 15;
 
@@ -69,19 +69,19 @@ fn no_record(number: u8) -> Record
 fn head_refusal(left: &[u8]) -> u8
     ensures { λ r. ⌜ HeadRead (now (left .entry)) r ⌝ }
 {
-    let suite = read_field(left, fields::SUITE, 1, 1);
+    let suite = read_field(left, house::SUITE, 1, 1);
     if suite.number != 0 {
         return suite.number;
     }
-    let range = range_refusal(wide(left[3]), fields::MOST_SUITE);
+    let range = range_refusal(wide(left[3]), house::MOST_SUITE);
     if range != 0 {
         return range;
     }
-    let row = read_field(&left[4..], fields::ROW, 2, 2);
+    let row = read_field(&left[4..], house::ROW, 2, 2);
     if row.number != 0 {
         return row.number;
     }
-    range_refusal(pair(left, 7), fields::MOST_ROW)
+    range_refusal(pair(left, 7), house::MOST_ROW)
 }
 
 fn no_texts(number: u8) -> Texts
@@ -98,27 +98,22 @@ fn no_texts(number: u8) -> Texts
 fn read_texts(left: &[u8], nonce: usize) -> Texts
     ensures { λ r. ⌜ TextsRead nonce (now (left .entry)) r ⌝ }
 {
-    let first = read_field(left, fields::NONCE, nonce, nonce);
+    let first = read_field(left, house::NONCE, nonce, nonce);
     if first.number != 0 {
         return no_texts(first.number);
     }
     let at = 3 + first.bytes;
-    let note = read_field(&left[at..], fields::NOTE, 0, fields::MOST_NOTE);
+    let note = read_field(&left[at..], house::NOTE, 0, house::MOST_NOTE);
     if note.number != 0 {
         return no_texts(note.number);
     }
     let at = at + 3 + note.bytes;
-    let cipher = read_field(&left[at..], fields::CIPHER, 0, fields::MOST_CIPHER);
+    let cipher = read_field(&left[at..], house::CIPHER, 0, house::MOST_CIPHER);
     if cipher.number != 0 {
         return no_texts(cipher.number);
     }
     let at = at + 3 + cipher.bytes;
-    let tag = read_field(
-        &left[at..],
-        fields::TAG,
-        fields::TAG_BYTES,
-        fields::TAG_BYTES,
-    );
+    let tag = read_field(&left[at..], house::TAG, house::TAG_BYTES, house::TAG_BYTES);
     if tag.number != 0 {
         return no_texts(tag.number);
     }
@@ -158,7 +153,7 @@ fn read_left(left: &[u8], at: usize) -> Record
         cipher,
         cipher_length: texts.cipher,
         tag,
-        length: tag + fields::TAG_BYTES - at,
+        length: tag + house::TAG_BYTES - at,
     }
 }
 

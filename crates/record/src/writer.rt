@@ -4,14 +4,14 @@ ghost use mathlib.Core.List.{[], _∷_};
 ghost use Prim.Native.Nat.{_+_, _≤_, _<_};
 ghost use lib.ListN.{length};
 ghost use Rattle.octets.specs.Octets.{bigEndian};
-ghost use Rattle.record.specs.Fields.{fieldsRefusal};
+ghost use Rattle.fields.specs.Fields.{fieldsRefusal};
 ghost use Rattle.record.specs.HouseRecord.{suiteRule, rowRule, textRules, written, WriteAllows, RowDataAllows};
-ghost use Rattle.record.specs.Parts.{laidAt};
-use crate::fields;
-use crate::fields::put;
-use crate::fields::put_field;
-use crate::fields::range_refusal;
-use crate::fields::wide;
+ghost use Rattle.fields.specs.Answers.{laidAt};
+use crate::house;
+use fields::put;
+use fields::put_field;
+use fields::range_refusal;
+use fields::wide;
 
 const NO_ROOM: u8 = 24;
 
@@ -44,11 +44,11 @@ fn row_bytes(row: u16) -> [u8; 2]
 fn head_refusal(suite: u8, row: u16) -> u8
     ensures { λ r. ⌜ r ≡ fieldsRefusal (suiteRule ∷ rowRule ∷ []) ((suite ∷ []) ∷ bigEndian 2 row ∷ []) ⌝ }
 {
-    let number = range_refusal(wide(suite), fields::MOST_SUITE);
+    let number = range_refusal(wide(suite), house::MOST_SUITE);
     if number != 0 {
         return number;
     }
-    range_refusal(row as usize, fields::MOST_ROW)
+    range_refusal(row as usize, house::MOST_ROW)
 }
 
 // The lengths of nonce, note, ciphertext and tag.
@@ -59,13 +59,13 @@ fn texts_refusal(nonce_length: usize, nonce: &[u8], note: &[u8], cipher: &[u8], 
     if nonce.len() != nonce_length {
         return fields::WRONG_LENGTH;
     }
-    if fields::MOST_NOTE < note.len() {
+    if house::MOST_NOTE < note.len() {
         return fields::WRONG_LENGTH;
     }
-    if fields::MOST_CIPHER < cipher.len() {
+    if house::MOST_CIPHER < cipher.len() {
         return fields::WRONG_LENGTH;
     }
-    if tag.len() != fields::TAG_BYTES {
+    if tag.len() != house::TAG_BYTES {
         return fields::WRONG_LENGTH;
     }
     0
@@ -94,12 +94,12 @@ fn lay(
 {
     let suite_byte = [suite];
     let row_number = row_bytes(row);
-    let at = put_field(destination, 0, fields::SUITE, &suite_byte);
-    let at = put_field(destination, at, fields::ROW, &row_number);
-    let at = put_field(destination, at, fields::NONCE, nonce);
-    let at = put_field(destination, at, fields::NOTE, note);
-    let at = put_field(destination, at, fields::CIPHER, cipher);
-    put_field(destination, at, fields::TAG, tag);
+    let at = put_field(destination, 0, house::SUITE, &suite_byte);
+    let at = put_field(destination, at, house::ROW, &row_number);
+    let at = put_field(destination, at, house::NONCE, nonce);
+    let at = put_field(destination, at, house::NOTE, note);
+    let at = put_field(destination, at, house::CIPHER, cipher);
+    put_field(destination, at, house::TAG, tag);
 }
 
 // Writes a record at the start of the destination, or refuses and leaves it as it stood.
@@ -142,11 +142,11 @@ pub fn write_row_data(row: u16, note: &[u8], destination: &mut [u8]) -> Written
     ensures { λ r. ⌜ RowDataAllows row (now (note .entry)) (now (destination .entry))
         (record { answer = r; destination = now (destination .exit) }) ⌝ }
 {
-    let number = range_refusal(row as usize, fields::MOST_ROW);
+    let number = range_refusal(row as usize, house::MOST_ROW);
     if number != 0 {
         return refused(number);
     }
-    if fields::MOST_NOTE < note.len() {
+    if house::MOST_NOTE < note.len() {
         return refused(fields::WRONG_LENGTH);
     }
     let length = ROW_BYTES + note.len();

@@ -8,8 +8,8 @@ use lib.ListN.{length, take, drop, length-append}
 use lib.Seq.{drop-drop}
 use Rattle.octets.specs.Octets.{bigEndian}
 use Rattle.octets.proofs.Parts.{put-take, put-drop}
-use Rattle.record.specs.Fields.{field}
-use Rattle.record.specs.Parts.{laidAt}
+use Rattle.fields.specs.Fields.{field}
+use Rattle.fields.specs.Answers.{laidAt}
 
 module _ (d a b : List ℕ) (at : ℕ) (fits : at + length a ≤ length d) where
   kept : drop (at + length a + length b) (laidAt at a d) ≡ drop (at + length (a ++ b)) d

@@ -1,9 +1,9 @@
--- `record::fields::read_field` meets its contract: each return is the definition's test at its place.
+-- `fields::read_field` meets its contract: each return is the definition's test at its place.
 -- Assumes nothing.
-use Rattle.record.proofs.OneField.{few, other, shorter, longer, cut, whole}
+use Rattle.fields.proofs.OneField.{few, other, shorter, longer, cut, whole}
 use borrow.Author.Needs.{needs}
-use Rattle.record.proofs.fields.read_field.Statement.{statement}
-use Rattle.record.proofs.fields.read_field.Tie as tie
+use Rattle.fields.proofs.read_field.Statement.{statement}
+use Rattle.fields.proofs.read_field.Tie as tie
 
 refused-requires : tie.Need-refused-requires
 refused-requires c κs = search needs

@@ -9,12 +9,11 @@ use native.Mathlib.Omega.{arith}
 use lib.ListN.{length, take, drop, getD, length-drop}
 use lib.Seq.{drop-drop, getD-take, getD-drop, length-take-le}
 use Rattle.octets.specs.Octets.{pick}
-use Rattle.record.specs.declared.fields.Part.{Part}
-use Rattle.record.specs.Fields.{Rule, Read, refused, got, andThen, takeField}
-use Rattle.record.specs.HouseRecord.{plain}
-use Rattle.record.specs.Parts.{part, FieldRead}
-use Rattle.record.proofs.OneField.{ranged}
-use Rattle.record.proofs.Readings.{answered-got, answered-refused}
+use Rattle.fields.specs.declared.Part.{Part}
+use Rattle.fields.specs.Fields.{Rule, Read, refused, got, andThen, takeField, plain}
+use Rattle.fields.specs.Answers.{part, FieldRead}
+use Rattle.fields.proofs.OneField.{ranged}
+use Rattle.fields.proofs.Readings.{answered-got, answered-refused}
 
 pub part-part : (s : List ℕ) (at from bytes : ℕ) → part (drop at s) from bytes ≡ part s (at + from) bytes
 part-part s at from bytes = ap (λ (l : List ℕ). take bytes l) (drop-drop from at s)

@@ -1,10 +1,10 @@
--- `record::fields::put_field` meets its contract: the head is laid, and then the bytes where it ends.
+-- `fields::put_field` meets its contract: the head is laid, and then the bytes where it ends.
 -- Assumes nothing.
-use Rattle.record.proofs.Laying.{laid-field}
+use Rattle.fields.proofs.Laying.{laid-field}
 use mathlib.Core.Path.{refl}
 use borrow.Author.Needs.{needs}
-use Rattle.record.proofs.fields.put_field.Statement.{statement}
-use Rattle.record.proofs.fields.put_field.Tie as tie
+use Rattle.fields.proofs.put_field.Statement.{statement}
+use Rattle.fields.proofs.put_field.Tie as tie
 
 cast-t9 : tie.Need-cast-t9
 cast-t9 c = search needs

@@ -1,8 +1,8 @@
--- `record::fields::range_refusal` meets its contract, return by return.
+-- `fields::range_refusal` meets its contract, return by return.
 -- Assumes nothing.
-use Rattle.record.proofs.Ranges.{below, above, inside}
-use Rattle.record.proofs.fields.range_refusal.Statement.{statement}
-use Rattle.record.proofs.fields.range_refusal.Tie as tie
+use Rattle.fields.proofs.Ranges.{below, above, inside}
+use Rattle.fields.proofs.range_refusal.Statement.{statement}
+use Rattle.fields.proofs.range_refusal.Tie as tie
 
 returns : tie.Need-returns
 returns c = below _ _ (c .if1 .taken)

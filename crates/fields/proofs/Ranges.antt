@@ -6,7 +6,7 @@ use Prim.Native.Nat.{ℕ, _≤_, _<_}
 use native.Mathlib.Nat.{suc-ne-zero}
 use borrow.Author.Tests.{le-leb, lt-leb}
 use Rattle.octets.specs.Octets.{pick}
-use Rattle.record.specs.Fields.{between}
+use Rattle.fields.specs.Fields.{between}
 
 module _ (greatest value : ℕ) where
   pub below : value < 1 → _≡_ {A = ℕ} 13 (pick (between 1 greatest value) 0 13)

@@ -12,8 +12,8 @@ use lib.ListN.{length, take, drop, getD, length-append, length-drop, take-append
 use lib.Seq.{length-take-le, take-at, drop-at, drop-drop, getD-append-add}
 use borrow.Author.Tests.{eq-eqb, le-leb, eqb-true, leb-true}
 use Rattle.octets.specs.Octets.{Bytes, pick, bigEndian}
-use Rattle.record.specs.Fields.{Rule, allows, between, number2, told, Read, refused, got, andThen, takeField, takeFields, field, fields, fieldRefusal, fieldsRefusal}
-use Rattle.record.proofs.Laying.{field-length}
+use Rattle.fields.specs.Fields.{Rule, allows, between, number2, told, Read, refused, got, andThen, takeField, takeFields, field, fields, fieldRefusal, fieldsRefusal}
+use Rattle.fields.proofs.Laying.{field-length}
 
 -- every rule's length can be written in two bytes
 abbrev pub Short : List Rule → Type 0

@@ -6,8 +6,8 @@ use mathlib.Core.List.{List, [], _∷_, _++_}
 use Prim.Native.Nat.{ℕ}
 use borrow.Author.Tests.{eq-eqb, ne-eqb}
 use Rattle.octets.specs.Octets.{pick}
-use Rattle.record.specs.Fields.{Rule, Read, refused, got, andThen, takeField, takeFields}
-use Rattle.record.specs.Parts.{answered}
+use Rattle.fields.specs.Fields.{Rule, Read, refused, got, andThen, takeField, takeFields}
+use Rattle.fields.specs.Answers.{answered}
 
 module _ {A : Type 0} (number : ℕ) (value : A) (left : List ℕ) where
   pub answered-got : number ≡ 0 → answered number value left ≡ got value left

@@ -1,32 +1,10 @@
-// One field: read from the bytes left, and laid into a destination.
+// One field of the house record, request b of document 02: read from the bytes left, and laid into a destination.
 ghost use mathlib.Core.Path.{_≡_};
 ghost use Prim.Native.Nat.{_+_, _≤_, _<_};
 ghost use lib.ListN.{length, getD};
 ghost use Rattle.octets.specs.Octets.{pick};
-ghost use Rattle.record.specs.Fields.{between, number2, field};
-ghost use Rattle.record.specs.Parts.{laidAt, FieldRead};
-
-pub const SUITE: u8 = 1;
-
-pub const ROW: u8 = 2;
-
-pub const NONCE: u8 = 3;
-
-pub const NOTE: u8 = 4;
-
-pub const CIPHER: u8 = 5;
-
-pub const TAG: u8 = 6;
-
-pub const MOST_SUITE: usize = 4;
-
-pub const MOST_ROW: usize = 20;
-
-pub const MOST_NOTE: usize = 1024;
-
-pub const MOST_CIPHER: usize = 4096;
-
-pub const TAG_BYTES: usize = 16;
+ghost use Rattle.fields.specs.Fields.{between, number2, field};
+ghost use Rattle.fields.specs.Answers.{laidAt, FieldRead};
 
 pub const MISSING: u8 = 10;
 

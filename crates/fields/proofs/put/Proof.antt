@@ -1,15 +1,14 @@
--- `record::fields::put` meets its contract: after i stores the destination is the target as far as byte i, and as it was from there.
+-- `fields::put` meets its contract: after i stores the destination is the target as far as byte i, and as it was from there.
 -- Assumes nothing.
-use Rattle.record.specs.Parts.{laidAt}
-use lib.ListN.{length-set}
+use Rattle.fields.specs.Answers.{laidAt}
+use lib.ListN.{length-set, length}
 use Rattle.octets.proofs.Parts.{upto, put-none, put-turn, put-end}
 use mathlib.Core.Path.{_≡_, refl}
 use Prim.Native.Nat.{_+_, _-_, _≤_}
 use native.Mathlib.Omega.{arith}
 use borrow.Author.Needs.{needs}
-use lib.ListN.{length}
-use Rattle.record.proofs.fields.put.Statement.{statement}
-use Rattle.record.proofs.fields.put.Tie as tie
+use Rattle.fields.proofs.put.Statement.{statement}
+use Rattle.fields.proofs.put.Tie as tie
 
 abbrev Inv-loop : tie.InvT-loop
 Inv-loop destination₀ at body i₀ i-end destination i =

@@ -1,7 +1,7 @@
 -- Fields, one by one and in a list: document 02, request b, "Each field is a one-byte tag, a two-byte big-endian length and its bytes", the
--- reader's order of checks, and the writer's numbers field by field. What the fields of the house record are is in specs/HouseRecord.
+-- reader's order of checks, and the writer's numbers field by field. What the fields of the house record are is in crates/record/specs/HouseRecord.
 -- Assumes nothing.
-use mathlib.Core.Bool.{Bool, false}
+use mathlib.Core.Bool.{Bool, true, false}
 use mathlib.Core.List.{List, [], _∷_, _++_}
 use Prim.Native.Nat.{ℕ, _+_, _-_, _*_}
 use lib.Dec.{eqb, leb}
@@ -21,6 +21,10 @@ pub record Rule : Type 0 where
   pub least : ℕ
   pub greatest : ℕ
   pub inRange : List ℕ → Bool
+
+-- a rule with no range: any bytes
+abbrev pub plain : ℕ → ℕ → ℕ → Rule
+plain tag least greatest = record { tag = tag; least = least; greatest = greatest; inRange = λ body. true }
 
 abbrev pub allows : Rule → ℕ → Bool
 allows r bytes = between (r .least) (r .greatest) bytes

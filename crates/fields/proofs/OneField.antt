@@ -10,10 +10,9 @@ use lib.ListN.{length, take, drop, getD}
 use lib.Seq.{drop-drop}
 use borrow.Author.Tests.{eq-eqb, ne-eqb, le-leb, lt-leb}
 use Rattle.octets.specs.Octets.{pick}
-use Rattle.record.specs.Fields.{Rule, allows, told, Read, refused, got, andThen, takeField}
-use Rattle.record.specs.HouseRecord.{plain}
-use Rattle.record.specs.Parts.{FieldRead}
-use Rattle.record.proofs.Readings.{answered-refused, then-pick}
+use Rattle.fields.specs.Fields.{Rule, allows, told, Read, refused, got, andThen, takeField, plain}
+use Rattle.fields.specs.Answers.{FieldRead}
+use Rattle.fields.proofs.Readings.{answered-refused, then-pick}
 
 module _ (tag least greatest : ℕ) (s : List ℕ) where
   no-field : (n : ℕ) → (n ≡ 0 → ⊥) → takeField (plain tag least greatest) s ≡ refused n
