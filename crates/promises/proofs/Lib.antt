@@ -13,3 +13,6 @@ pub mod PieceViews
 pub mod Running
 pub mod ByPieces
 pub mod ByPiecesInOrder
+pub mod RecordViews
+pub mod RecordsBothWays
+pub mod Records

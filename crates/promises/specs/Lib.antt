@@ -2,3 +2,4 @@ pub mod Statements
 pub mod Refusals
 pub mod MadeOfRows
 pub mod ByPieces
+pub mod Records

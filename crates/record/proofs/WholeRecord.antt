@@ -29,7 +29,7 @@ nonce-short suite = by (isSuite suite) (isDeoxysI suite)
     by true false = omega arith
     by false b = omega arith
 
-rules-short : (suite : ℕ) → Short (rules suite)
+pub rules-short : (suite : ℕ) → Short (rules suite)
 rules-short suite = (omega arith, (omega arith, (omega (arith, nonce-short suite), (omega arith, (omega arith, (omega arith, tt))))))
 
 -- ---- what was written is read
