@@ -2,7 +2,7 @@
 -- Each by one induction over the rules.
 -- Assumes nothing.
 use mathlib.Core.Path.{_≡_, refl, sym, ap, _∙_, subst}
-use mathlib.Core.Bool.{Bool, true, false, false≢true}
+use mathlib.Core.Bool.{Bool, true, false}
 use mathlib.Core.List.{List, [], _∷_, _++_, append-assoc}
 use Prim.Native.Nat.{ℕ, suc, _+_, _-_, _/_, _%_, _^_, _≤_, _<_}
 use native.Mathlib.Nat.{suc-ne-zero}
@@ -14,6 +14,7 @@ use borrow.Author.Tests.{eq-eqb, le-leb, eqb-true, leb-true}
 use Rattle.octets.specs.Octets.{Bytes, pick, bigEndian}
 use Rattle.fields.specs.Fields.{Rule, allows, between, number2, told, Read, refused, got, andThen, takeField, takeFields, field, fields, fieldRefusal, fieldsRefusal}
 use Rattle.fields.proofs.Laying.{field-length}
+use Rattle.fields.proofs.Ranges.{both}
 
 -- every rule's length can be written in two bytes
 abbrev pub Short : List Rule → Type 0
@@ -74,11 +75,6 @@ opened r a b body rest e h g =
     let long : 3 ≤ length (r .tag ∷ a ∷ b ∷ (body ++ rest)) = omega arith in
     let room : length body ≤ length (r .tag ∷ a ∷ b ∷ (body ++ rest)) - 3 = omega (arith, length-append body rest) in
     simp (le-leb _ _ long, eq-eqb (r .tag) (r .tag) refl, e, h, le-leb _ _ room, take-at, drop-at, g)
-
--- both tests of a length
-pub both : (a b : Bool) → pick a b false ≡ true → (a ≡ true) × (b ≡ true)
-both true b e = (refl, e)
-both false b e = absurd (false≢true e)
 
 pub taken : (r : Rule) (body rest : List ℕ) → r .greatest < 65536 → allows r (length body) ≡ true → r .inRange body ≡ true
     → takeField r (field (r .tag) body ++ rest) ≡ got body rest

@@ -1,6 +1,7 @@
 // One field of the house record, request b of document 02: read from the bytes left, and laid into a destination.
 ghost use mathlib.Core.Path.{_≡_};
 ghost use Prim.Native.Nat.{_+_, _≤_, _<_};
+ghost use lib.Dec.{eqb};
 ghost use lib.ListN.{length, getD};
 ghost use Rattle.octets.specs.Octets.{pick};
 ghost use Rattle.fields.specs.Fields.{between, number2, field};
@@ -38,17 +39,46 @@ pub fn pair(s: &[u8], at: usize) -> usize
     wide(s[at]) * 256 + wide(s[at + 1])
 }
 
+// A number that refuses a value outside its bounds.
+fn outside(value: usize, least: usize, greatest: usize, number: u8) -> u8
+    ensures { λ r. ⌜ r ≡ pick (between least greatest value) 0 number ⌝ }
+{
+    if value < least {
+        return number;
+    }
+    if greatest < value {
+        return number;
+    }
+    0
+}
+
 // A suite's or a row's number: both count from one.
 pub fn range_refusal(value: usize, greatest: usize) -> u8
     ensures { λ r. ⌜ r ≡ pick (between 1 greatest value) 0 13 ⌝ }
 {
-    if value < 1 {
-        return OUT_OF_RANGE;
-    }
-    if greatest < value {
-        return OUT_OF_RANGE;
+    outside(value, 1, greatest, OUT_OF_RANGE)
+}
+
+fn tag_refusal(found: u8, tag: u8) -> u8
+    ensures { λ r. ⌜ r ≡ pick (eqb found tag) 0 11 ⌝ }
+{
+    if found != tag {
+        return WRONG_TAG;
     }
     0
+}
+
+// The first of three numbers that refuses.
+fn first_of(number: u8, next: u8, last: u8) -> u8
+    ensures { λ r. ⌜ r ≡ pick (eqb number 0) (pick (eqb next 0) last next) number ⌝ }
+{
+    if number != 0 {
+        return number;
+    }
+    if next != 0 {
+        return next;
+    }
+    last
 }
 
 fn refused(number: u8) -> Part
@@ -57,25 +87,20 @@ fn refused(number: u8) -> Part
     Part { number, bytes: 0 }
 }
 
-// The field that the bytes left begin with, all but its range.
+// The field that the bytes left begin with, all but its range. The order of the checks is that of `first_of`.
 pub fn read_field(left: &[u8], tag: u8, least: usize, greatest: usize) -> Part
     ensures { λ r. ⌜ FieldRead tag least greatest (now (left .entry)) r ⌝ }
 {
     if left.len() < HEAD_BYTES {
         return refused(MISSING);
     }
-    if left[0] != tag {
-        return refused(WRONG_TAG);
-    }
     let bytes = pair(left, 1);
-    if bytes < least {
-        return refused(WRONG_LENGTH);
-    }
-    if greatest < bytes {
-        return refused(WRONG_LENGTH);
-    }
-    if left.len() - HEAD_BYTES < bytes {
-        return refused(MISSING);
+    let other_tag = tag_refusal(left[0], tag);
+    let wrong_length = outside(bytes, least, greatest, WRONG_LENGTH);
+    let cut_off = outside(bytes, 0, left.len() - HEAD_BYTES, MISSING);
+    let number = first_of(other_tag, wrong_length, cut_off);
+    if number != 0 {
+        return refused(number);
     }
     Part { number: 0, bytes }
 }

@@ -17,7 +17,8 @@ use Rattle.fields.specs.Fields.{between, field, fields, fieldsRefusal}
 use Rattle.fields.specs.Answers.{part}
 use Rattle.record.specs.declared.reader.Record.{Record}
 use Rattle.record.specs.HouseRecord.{suiteRule, rowRule, rules, Content, bodies, written, Writing, laidOut, writing, foundAt, reading, WriteAllows, ReadAllows}
-use Rattle.fields.proofs.Accepting.{both, tested}
+use Rattle.fields.proofs.Ranges.{both}
+use Rattle.fields.proofs.Accepting.{tested}
 use Rattle.record.proofs.Bundles.{was-read}
 use Rattle.record.proofs.WholeRecord.{Good, row-back, read-back, accepted-record}
 use Rattle.record.proofs.Writings.{Fit, fit, refused-out, short-out, done-out, row-length}

@@ -13,7 +13,8 @@ use Rattle.octets.specs.Octets.{Bytes, pick, bigEndian}
 use Rattle.suites.specs.Suites.{isSuite, isDeoxysI, nonceLength}
 use Rattle.fields.specs.Fields.{between, number2, Read, got, andThen, takeFields, field, fields, fieldsRefusal}
 use Rattle.record.specs.HouseRecord.{suiteRule, rowRule, rules, rowOf, Content, bodies, written, contentOf, takeRecord}
-use Rattle.fields.proofs.Accepting.{Short, both, through, got-value, got-left, tested, taken-all, Mades, accepted-all, Took, took-all, NotZero, then-not-zero, fields-not-zero}
+use Rattle.fields.proofs.Ranges.{both}
+use Rattle.fields.proofs.Accepting.{Short, through, got-value, got-left, tested, taken-all, Mades, accepted-all, Took, took-all, NotZero, then-not-zero, fields-not-zero}
 use Rattle.record.proofs.Sizes.{written-length}
 
 -- the writer takes this content, and its row is a number of sixteen bits

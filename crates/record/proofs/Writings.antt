@@ -15,7 +15,8 @@ use Rattle.suites.specs.Suites.{nonceLength}
 use Rattle.fields.specs.Fields.{Rule, between, field, fields, fieldRefusal, fieldsRefusal, plain}
 use Rattle.record.specs.HouseRecord.{suiteRule, rowRule, noteRule, textRules, rules, Content, bodies, written, rowData, Writing, laidOut}
 use Rattle.fields.specs.Answers.{laidAt}
-use Rattle.fields.proofs.Accepting.{both, tested}
+use Rattle.fields.proofs.Ranges.{both}
+use Rattle.fields.proofs.Accepting.{tested}
 use Rattle.fields.proofs.Laying.{laid-next, field-length}
 use Rattle.record.proofs.WholeRecord.{row-back, exactly}
 
