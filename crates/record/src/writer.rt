@@ -149,12 +149,15 @@ pub fn write_row_data(row: u16, note: &[u8], destination: &mut [u8]) -> Written
     if house::MOST_NOTE < note.len() {
         return refused(fields::WRONG_LENGTH);
     }
-    let length = ROW_BYTES + note.len();
-    if destination.len() < length {
+    let bytes = ROW_BYTES + note.len();
+    if destination.len() < bytes {
         return refused(NO_ROOM);
     }
     let row_number = row_bytes(row);
     let at = put(destination, 0, &row_number);
     put(destination, at, note);
-    Written { number: 0, length }
+    Written {
+        number: 0,
+        length: bytes,
+    }
 }

@@ -76,7 +76,7 @@ sub-t20 : tie.Need-sub-t20
 sub-t20 c = search needs
 
 returns-3 : tie.Need-returns-3
-returns-3 c = let s = c .before .before .before .before .before .before .before .before .before .before .before .before .args .left .now in let g = rw (rest-is s 9, c .before .before .before .before .before .before .before .nonce-length .ensures) at (c .before .before .before .before .before .read-texts .ensures) in record-read s _ (c .before .before .before .before .before .before .before .before .before .before .head-refusal .ensures) (c .before .before .before .before .before .before .before .before .before .before .before .before .args .at) (c .before .before .before .before .before .before .before .before .before .if1 .left) _ g (c .before .before .before .if2 .left) _ _ _ _ _ _ _ (c .before .before .before .before .before .before .before .nonce-length .ensures) (c .pair .ensures .0) refl refl (omega arith) (omega arith) (omega arith)
+returns-3 c = let s = c .before .before .before .before .before .before .before .before .before .before .before .before .args .left .now in let g = rw (rest-is s 9, c .before .before .before .before .before .before .before .nonce-length .ensures) at (c .before .before .before .before .before .read-texts .ensures) in record-read s _ (c .before .before .before .before .before .before .before .before .before .before .head-refusal .ensures) (c .before .before .before .before .before .before .before .before .before .before .before .before .args .at) (c .before .before .before .before .before .before .before .before .before .if1 .left) _ g (c .before .before .before .if2 .left) _ _ _ _ _ _ _ (c .before .before .before .before .before .before .before .nonce-length .ensures) (c .pair .ensures .0) (omega arith) (omega arith) (omega arith) (omega arith) (omega arith)
 
 pub read-left-spec : {M : Type 1} → statement M
 read-left-spec =

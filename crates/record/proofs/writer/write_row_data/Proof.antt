@@ -26,8 +26,8 @@ returns-2 : tie.Need-returns-2
 unfolding dataWriting
 returns-2 c = let a = c .before .before .before .before .before .before .args in let x = rowData (a .row) (a .note .now) in rw (c .refused2 .ensures) (refused-out _ x _ 12 (data-note (a .row) _ (a .note .now) (search needs) (c .before .before .before .range-refusal .ensures) (c .before .before .if1 .left) (c .before .if2 .taken)) (suc-ne-zero 11))
 
-add-length : tie.Need-add-length
-add-length c = search needs
+add-bytes : tie.Need-add-bytes
+add-bytes c = search needs
 
 refused-requires-3 : tie.Need-refused-requires-3
 refused-requires-3 c κs = search needs
@@ -64,7 +64,7 @@ write-row-data-spec =
     returns
     refused-requires-2
     returns-2
-    add-length
+    add-bytes
     refused-requires-3
     returns-3
     row-bytes-requires
