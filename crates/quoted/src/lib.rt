@@ -86,10 +86,11 @@ fn put(destination: &mut [u8], at: usize, byte: u8) -> usize
     at + bytes::copy(&bytes[..n], &mut destination[at..])
 }
 
-// Lays a note's spelling at the start of the destination; its length.
+// Lays a note's spelling at the start of the destination; its length. With the last `ensures` a caller lends it without a proof file.
 pub fn spell(note: &[u8], destination: &mut [u8]) -> usize
     requires { ⌜ 4 * length (now note) ≤ length (now destination) ⌝ }
-    ensures { λ r. ⌜ (r ≤ length (now (destination .exit))) × (take r (now (destination .exit)) ≡ quoted (now (note .entry))) ⌝ }
+    ensures { λ r. ⌜ take r (now (destination .exit)) ≡ quoted (now (note .entry)) ⌝ }
+    ensures { λ r. ⌜ (r ≤ length (now (destination .exit))) × (r ≡ length (take r (now (destination .exit)))) ⌝ }
 {
     let mut at = 0;
     for i in 0..note.len() {

@@ -1,9 +1,10 @@
 -- `quoted::spell` meets its contract: what is laid, and the spelling of what is left, are the whole.
 -- Assumes nothing.
-use mathlib.Core.Path.{_≡_, refl}
-use Prim.Native.Nat.{_-_}
+use mathlib.Core.Path.{_≡_, refl, sym}
+use Prim.Native.Nat.{_-_, _≤_}
 use native.Mathlib.Omega.{arith}
 use lib.ListN.{length}
+use lib.Seq.{length-take-le}
 use borrow.Author.Needs.{needs}
 use Rattle.quoted.proofs.Spellings.{Laid, laid-start, laid-turn, laid-end}
 use Rattle.quoted.proofs.spell.Statement.{statement}
@@ -43,7 +44,8 @@ same-length c = search needs
 returns : tie.Need-returns Inv-loop μ-loop
 returns c =
     let l = c .before .loop in
-    (omega (arith, l .inv .0 .within, l .inv .0 .short, l .inv .2, c .before .before .before .before .pre), laid-end _ _ _ _ (l .inv .0) (omega arith))
+    let h : l .at ≤ length (l .destination) = omega (arith, l .inv .0 .within, l .inv .0 .short, l .inv .2, c .before .before .before .before .pre) in
+    (laid-end _ _ _ _ (l .inv .0) (omega arith), (h, sym (length-take-le _ _ h)))
 
 pub spell-spec : {M : Type 1} → statement M
 spell-spec =
