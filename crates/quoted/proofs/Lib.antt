@@ -1,2 +1,3 @@
 pub mod Spellings
 pub mod Printable
+pub mod ReadBack
