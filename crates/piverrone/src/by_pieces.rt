@@ -131,7 +131,7 @@ fn seal_over(file: In, out: Out, begun: Pieces)
 {
     let sealed = seal_beside(file, out, begun);
     if files::end(out, sealed.whole) {
-        words::done(b"sealed, ", sealed.rows);
+        words::done(b"sealed, rows: ", sealed.rows);
     }
 }
 

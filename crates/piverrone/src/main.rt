@@ -1,7 +1,8 @@
-// Seals and opens files, seals them by pieces, and prints the risk tables of a sealing and an opening.
+// Seals and opens files, seals them by pieces, prints the risk tables of a sealing and an opening, and lists bundles of sealed rows.
 //
 // No program has an exit status here: `tools/piverrone` makes one of what is written. What was done is told on
 // standard output, and what was not on standard error. The file OUT is written only where the answer is 0.
+mod bundles;
 mod by_pieces;
 mod files;
 mod numbers;
@@ -20,6 +21,8 @@ fn main() {
     let count = os::arg_count();
     if command == words::ROWS && count == 5 {
         rows();
+    } else if command == words::RECORDS && count == 3 {
+        bundles::list_named(2);
     } else if words::is_on_files(command) && count == 8 {
         with_files(command);
     } else {
@@ -85,7 +88,7 @@ fn seal(suite: u8, key: &[u8], nonce: &[u8], ad: &[u8], text: &mut [u8]) {
     }
     let tag = sealed.tag;
     if files::write_named(7, text, &tag) {
-        words::done(b"sealed, ", sealed.rows);
+        words::done(b"sealed, rows: ", sealed.rows);
     }
 }
 
@@ -98,7 +101,7 @@ fn open(suite: u8, key: &[u8], nonce: &[u8], ad: &[u8], text: &mut [u8]) {
         return;
     }
     if files::write_named(7, &text[..at], b"") {
-        words::done(b"opened, ", opened.rows);
+        words::done(b"opened, rows: ", opened.rows);
     }
 }
 
@@ -120,7 +123,7 @@ fn table(opening: bool, suite: u8, ad: usize, message: usize) -> bool {
             return false;
         }
     }
-    words::done(b"", n)
+    words::done(b"rows: ", n)
 }
 
 fn rows() {

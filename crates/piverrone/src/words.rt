@@ -1,6 +1,9 @@
 // What the program reads and writes in words: on standard output what was done, on standard error what was not.
+ghost use Prim.Native.Nat.{_≤_};
+ghost use lib.ListN.{length};
 use libc::STDERR_FILENO;
 use libc::STDOUT_FILENO;
+use record::reader::Record;
 
 pub const UNKNOWN: u8 = 0;
 
@@ -11,6 +14,11 @@ pub const OPEN: u8 = 2;
 pub const ROWS: u8 = 3;
 
 pub const PIECES: u8 = 4;
+
+pub const RECORDS: u8 = 5;
+
+// The refusal of bytes after a bundle's last record.
+const BYTES_AFTER: u8 = 15;
 
 pub fn command(word: &[u8]) -> u8 {
     if check::same(word, b"seal") {
@@ -24,6 +32,9 @@ pub fn command(word: &[u8]) -> u8 {
     }
     if check::same(word, b"pieces") {
         return PIECES;
+    }
+    if check::same(word, b"records") {
+        return RECORDS;
     }
     UNKNOWN
 }
@@ -41,22 +52,41 @@ fn say(text: &[u8]) -> bool {
     io::write_all(STDOUT_FILENO, text)
 }
 
+fn number(fd: i32, label: &[u8], value: usize) -> bool {
+    io::write_all(fd, label) && io::print_decimal(fd, value as u64)
+}
+
 pub fn usage() {
     warn(b"usage: piverrone seal SUITE KEYFILE NONCEFILE DATAFILE IN OUT\n");
     warn(b"       piverrone open SUITE KEYFILE NONCEFILE DATAFILE IN OUT\n");
     warn(b"       piverrone pieces SUITE KEYFILE NONCEFILE DATAFILE IN OUT\n");
     warn(b"       piverrone rows SUITE DATA-BYTES MESSAGE-BYTES\n");
+    warn(b"       piverrone records FILE\n");
     warn(
         b"OUT is written where standard output says sealed or opened. For an exit status run tools/piverrone.\n",
     );
 }
 
 // A refusal, by its number and in words.
-pub fn refused(number: u8) {
-    warn(b"refused: ");
-    io::print_decimal(STDERR_FILENO, number as u64);
+fn refusal(refusal: u8) {
+    number(STDERR_FILENO, b"refused: ", refusal as usize);
     warn(b", ");
-    reason(number);
+    reason(refusal);
+}
+
+pub fn refused(number: u8) {
+    refusal(number);
+    warn(b"\n");
+}
+
+// A refused bundle: the record that can't be read, counted from one, and the place of its first byte.
+pub fn refused_at(refused: u8, record: usize, at: usize) {
+    refusal(refused);
+    warn(b":");
+    if refused != BYTES_AFTER {
+        number(STDERR_FILENO, b" record ", record);
+    }
+    number(STDERR_FILENO, b" at ", at);
     warn(b"\n");
 }
 
@@ -70,6 +100,17 @@ fn reason(number: u8) {
         6 => warn(b"the tag is not 16 bytes"),
         7 => warn(b"the tag is not the computed one"),
         8 => warn(b"the last piece was taken before"),
+        _ => bundle_reason(number),
+    }
+}
+
+fn bundle_reason(number: u8) {
+    match number {
+        10 => warn(b"bytes are missing"),
+        11 => warn(b"a field's tag is not the one that comes next"),
+        12 => warn(b"a field's length is not allowed"),
+        13 => warn(b"the suite is not 1 to 4 or the row not 1 to 20"),
+        BYTES_AFTER => warn(b"there are bytes after record 64"),
         _ => warn(b"for which this program has no words"),
     }
 }
@@ -88,9 +129,9 @@ fn told(all: bool) -> bool {
     all
 }
 
-// What was done, and its number of rows.
-pub fn done(what: &[u8], rows: usize) -> bool {
-    told(say(what) && say(b"rows: ") && io::print_decimal(STDOUT_FILENO, rows as u64) && say(b"\n"))
+// What was done, and its number of rows or records.
+pub fn done(what: &[u8], count: usize) -> bool {
+    told(number(STDOUT_FILENO, what, count) && say(b"\n"))
 }
 
 pub fn heading(opening: bool) -> bool {
@@ -126,5 +167,29 @@ pub fn row(number: usize, label: risk::Label) -> bool {
             && kind(label.kind)
             && io::print_decimal(STDOUT_FILENO, label.number as u64)
             && extent(label.partial),
+    )
+}
+
+// A note in quotes. Each of its bytes is shown by up to four.
+fn note(note: &[u8]) -> bool
+    requires { ⌜ length (now note) ≤ 1024 ⌝ }
+{
+    let mut space = io::buffer();
+    let n = quoted::spell(note, &mut space);
+    say(b" note \"") && say(&space[..n]) && say(b"\"")
+}
+
+// A record of a bundle, counted from one, with its note and its place.
+pub fn sealed_row(count: usize, found: Record, text: &[u8], at: usize) -> bool
+    requires { ⌜ length (now text) ≤ 1024 ⌝ }
+{
+    told(
+        number(STDOUT_FILENO, b"", count)
+            && number(STDOUT_FILENO, b" row ", found.row as usize)
+            && number(STDOUT_FILENO, b" suite ", found.suite as usize)
+            && note(text)
+            && number(STDOUT_FILENO, b" ciphertext ", found.cipher_length)
+            && number(STDOUT_FILENO, b" at ", at)
+            && say(b"\n"),
     )
 }

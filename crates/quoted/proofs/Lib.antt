@@ -1,0 +1,3 @@
+pub mod Spellings
+pub mod Printable
+pub mod ReadBack
