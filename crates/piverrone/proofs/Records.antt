@@ -8,9 +8,10 @@ use lib.Dec.{leb}
 use lib.ListN.{length, drop, getD}
 use borrow.Author.Tests.{leb-true}
 use Rattle.record.specs.declared.reader.Record.{Record}
-use Rattle.record.specs.Fields.{Read, refused, got, takeFields}
+use Rattle.fields.specs.Fields.{Read, refused, got, takeFields}
 use Rattle.record.specs.HouseRecord.{rules, Content, takeRecord, answerAt, reading}
-use Rattle.record.proofs.Accepting.{Sized, both, through, got-value, took-all}
+use Rattle.fields.proofs.Accepting.{Sized, through, got-value, took-all}
+use Rattle.fields.proofs.Ranges.{both}
 use Rattle.record.proofs.Bundles.{was-read}
 use Rattle.record.proofs.Sizes.{written-length}
 

@@ -89,8 +89,8 @@ row-read-is-the-row-written = (
       let g = in-bounds (f .content) (f .good) in
       let e : f .content .row ≡ r .row = sym (f .gives .row) in
       record {
-        from-1 = rw e at (g .row .0);
-        to-20 = rw e at (g .row .1);
+        from-1 = omega (arith, e, g .row .0);
+        to-20 = omega (arith, e, g .row .1);
         bytes =
             rw (← getD-drop at s 7 0, ← getD-drop at s 8 0, f .whole) (row-bytes (f .content) (f .rest) (f .good .row-fits)) ∙ e;
       },
