@@ -179,7 +179,8 @@ struct deoxys_finished deoxys_finish(struct deoxys_pieces state);
  *   06   tag          16 bytes
  *
  * so that the longest has 5,172 bytes. A bundle is 0 to 64 records with
- * nothing between or after them, at most 331,008 bytes.
+ * nothing between or after them, at most 331,008 bytes; its rows may come in
+ * any order, and more than once.
  *
  * The cipher's associated data of a sealed row is the two row bytes,
  * big-endian as in the record, and then the note: give it to deoxys_seal, and
@@ -241,8 +242,8 @@ struct calibration_written {
 
 /* Where each text lies in the bytes that were read: its place, counted from
  * the start of the bytes given and not of the record, and its length. The tag
- * has DEOXYS_TAG_LENGTH bytes. The next record begins at the place of this one
- * and its length on. */
+ * has DEOXYS_TAG_LENGTH bytes. A next record begins where this one does and
+ * length bytes on. */
 struct calibration_record {
     uint8_t number;
     uint8_t suite;

@@ -88,6 +88,10 @@ fn some(count: usize, generator: &mut Generator) -> Vec<Content> {
     (0..count).map(|_| Content::random(generator, 40, 60)).collect()
 }
 
+fn longest(count: usize, generator: &mut Generator) -> Vec<Content> {
+    (0..count).map(|_| Content::longest(generator)).collect()
+}
+
 fn bundle(contents: &[Content]) -> Vec<u8> {
     contents.iter().flat_map(Content::written).collect()
 }
@@ -325,16 +329,14 @@ fn a_bundle_cut_after_every_byte() {
     let mut generator = Generator::new(7);
     assert_cut_after_every_byte(&mixed(&mut generator));
     assert_cut_after_every_byte(&some(MOST_RECORDS, &mut generator));
-    let longest: Vec<_> = (0..MOST_RECORDS).map(|_| Content::longest(&mut generator)).collect();
-    assert_cut_after_every_byte(&longest);
+    assert_cut_after_every_byte(&longest(MOST_RECORDS, &mut generator));
 }
 
 #[test]
 fn sixty_four_records_and_more() {
     let mut generator = Generator::new(8);
-    let shortest = |generator: &mut Generator| Content::new(&SUITES[0], 1, 0, 0, generator);
-    for make in [shortest, Content::longest] {
-        let contents: Vec<_> = (0..=MOST_RECORDS).map(|_| make(&mut generator)).collect();
+    for make in [some, longest] {
+        let contents = make(MOST_RECORDS + 1, &mut generator);
         let (whole, borders) = (bundle(&contents), borders(&contents));
         for (records, end) in borders.iter().enumerate().take(MOST_RECORDS) {
             assert_eq!(count(&whole[..*end]), Ok(records));
@@ -353,8 +355,7 @@ fn sixty_four_records_and_more() {
 
 #[test]
 fn the_longest_record_and_the_longest_bundle() {
-    let mut generator = Generator::new(9);
-    let longest: Vec<_> = (0..MOST_RECORDS).map(|_| Content::longest(&mut generator)).collect();
+    let longest = longest(MOST_RECORDS, &mut Generator::new(9));
     assert_eq!(longest[0].written().len(), LONGEST);
     assert_eq!(bundle(&longest).len(), LONGEST_BUNDLE);
     assert_eq!(count(&bundle(&longest)), Ok(MOST_RECORDS));
