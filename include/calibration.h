@@ -2,10 +2,12 @@
  *
  * Cipher operations begin with deoxys_: Deoxys-I and Deoxys-II, sealing and
  * opening in place, with a detached tag; and Deoxys-I sealing by pieces.
+ * Those on the file that sealed rows are kept in begin with calibration_: the
+ * house record, written and read, and a bundle of records, read.
  *
  * A byte string is a pointer and then a count. A pointer may be NULL where
- * its count is 0. The buffer or the piece may not overlap any other argument.
- * Key, nonce, data and the tag to open with are only read. */
+ * its count is 0. The buffer, the piece or the destination may not overlap
+ * any other argument; every other byte string is only read. */
 #ifndef CALIBRATION_H
 #define CALIBRATION_H
 
@@ -163,6 +165,120 @@ struct deoxys_taken deoxys_take(struct deoxys_pieces state,
 
 /* Gives the tag of all that was taken. */
 struct deoxys_finished deoxys_finish(struct deoxys_pieces state);
+
+/* The house record, which keeps one sealed row.
+ *
+ * It has six fields, in this order and nothing else. A field is a one-byte
+ * tag, a two-byte big-endian length and its bytes:
+ *
+ *   01   suite        1 byte, 1 to 4
+ *   02   row          2 bytes, big-endian, 1 to 20
+ *   03   nonce        8 bytes for the suites 1 and 2, 15 for 3 and 4
+ *   04   note         0 to 1,024 bytes
+ *   05   ciphertext   0 to 4,096 bytes
+ *   06   tag          16 bytes
+ *
+ * so that the longest has 5,172 bytes. A bundle is 0 to 64 records with
+ * nothing between or after them, at most 331,008 bytes; its rows may come in
+ * any order, and more than once.
+ *
+ * The cipher's associated data of a sealed row is the two row bytes,
+ * big-endian as in the record, and then the note: give it to deoxys_seal, and
+ * to deoxys_open as it was read. Reading checks the layout and not the tag.
+ * What was read is authentic only once deoxys_open has answered 0 for it.
+ *
+ * What was written is read back as it was given. What is read with 0 is, byte
+ * for byte, what the writer writes for that content. */
+#define CALIBRATION_NOTE_LIMIT ((size_t)1024)
+#define CALIBRATION_CIPHER_LIMIT ((size_t)4096)
+#define CALIBRATION_ROW_LIMIT 20
+#define CALIBRATION_RECORD_LIMIT ((size_t)5172)   /* bytes of a record */
+#define CALIBRATION_BUNDLE_RECORDS ((size_t)64)   /* records of a bundle */
+#define CALIBRATION_BUNDLE_LIMIT ((size_t)331008) /* bytes of a bundle */
+
+/* The number in an answer of the three functions below, 0 where it was done.
+ *
+ * The reader takes field after field, and for each checks, in this order:
+ *
+ *   10   fewer than three bytes are left
+ *   11   the tag isn't this field's
+ *   12   the length isn't one that this field may have
+ *   10   fewer bytes are left than the length says
+ *   13   the suite or the row is outside its range
+ *
+ * and of a bundle, where bytes are left after record 64:
+ *
+ *   15   there are too many
+ *
+ * The writer takes field after field too, with 12 and 13 as the reader has
+ * them, and last:
+ *
+ *   24   the destination is shorter than the record
+ *
+ * The first that applies is given. What is left:
+ *
+ *             0                              any other number
+ *   writing   the record at the start of     not one byte of the destination
+ *             the destination, and its       changed, length 0
+ *             length; the bytes after the
+ *             record as they were
+ *   reading   the record                     every field 0 but the number
+ *   bundle    how many records there are     records 0
+ */
+enum {
+    CALIBRATION_DONE = 0,
+    CALIBRATION_BYTES_MISSING = 10,
+    CALIBRATION_WRONG_FIELD = 11,
+    CALIBRATION_BAD_LENGTH = 12,
+    CALIBRATION_OUT_OF_RANGE = 13,
+    CALIBRATION_TOO_MANY_RECORDS = 15,
+    CALIBRATION_NO_ROOM = 24
+};
+
+struct calibration_written {
+    uint8_t number;
+    size_t length; /* of the record, in bytes */
+};
+
+/* Where each text lies in the bytes that were read: its place, counted from
+ * the start of the bytes given and not of the record, and its length. The tag
+ * has DEOXYS_TAG_LENGTH bytes. A next record begins where this one does and
+ * length bytes on. */
+struct calibration_record {
+    uint8_t number;
+    uint8_t suite;
+    uint16_t row;
+    size_t nonce, nonce_length;
+    size_t note, note_length;
+    size_t cipher, cipher_length;
+    size_t tag;
+    size_t length; /* of the record, in bytes */
+};
+
+struct calibration_bundle {
+    uint8_t number;
+    size_t records;
+};
+
+/* Writes a record at the start of the destination. */
+struct calibration_written calibration_write_record(
+    uint8_t suite, uint16_t row,
+    const uint8_t *nonce, size_t nonce_length,
+    const uint8_t *note, size_t note_length,
+    const uint8_t *cipher, size_t cipher_length,
+    const uint8_t *tag, size_t tag_length,
+    uint8_t *destination, size_t destination_length);
+
+/* Reads the record that begins at a place, whatever comes after it. A place
+ * at the end of the bytes or past it is a 10. */
+struct calibration_record calibration_read_record(const uint8_t *bytes,
+                                                  size_t bytes_length,
+                                                  size_t at);
+
+/* Reads a bundle to its last byte and counts its records. No bytes at all are
+ * a bundle of none. */
+struct calibration_bundle calibration_read_bundle(const uint8_t *bytes,
+                                                  size_t bytes_length);
 
 #ifdef __cplusplus
 }

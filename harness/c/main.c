@@ -1,7 +1,10 @@
 /* Calls the archive from C through include/calibration.h: seals, opens, opens a
- * forgery, seals by pieces, and is refused, with NULL for empty byte strings
- * too. Exit status 1 if anything isn't as the header says. */
+ * forgery, seals by pieces, writes and reads records, and is refused, with NULL
+ * for empty byte strings too. Exit status 1 if anything isn't as the header
+ * says. */
 #include "calibration.h"
+#include "expect.h"
+#include "records.h"
 
 #include <stdio.h>
 #include <string.h>
@@ -28,7 +31,7 @@ _Static_assert(offsetof(struct deoxys_finished, tag) == 345, "layout");
 _Static_assert(offsetof(struct deoxys_finished, rows) == 368, "layout");
 _Static_assert(sizeof(struct deoxys_finished) == 376, "layout");
 
-enum { MESSAGE_LENGTH = 37, DATA_LENGTH = 18, AROUND = 16, LONGEST_KEY = 32, LONGEST_NONCE = 15 };
+enum { MESSAGE_LENGTH = 37, DATA_LENGTH = 18, LONGEST_KEY = 32, LONGEST_NONCE = 15 };
 
 struct suite {
     uint8_t number;
@@ -64,22 +67,6 @@ struct inputs {
     uint8_t key[LONGEST_KEY + 1], nonce[LONGEST_NONCE + 1], data[DATA_LENGTH];
 };
 
-static int mismatches = 0;
-
-static void expect(int as_it_should_be, const char *what)
-{
-    if (!as_it_should_be) {
-        printf("    MISMATCH: %s\n", what);
-        mismatches++;
-    }
-}
-
-static void count_up(uint8_t *bytes, size_t count, uint8_t first)
-{
-    for (size_t i = 0; i < count; i++)
-        bytes[i] = (uint8_t)(first + i);
-}
-
 static struct memory fresh_memory(void)
 {
     struct memory memory;
@@ -97,14 +84,6 @@ static struct inputs fresh_inputs(void)
     return inputs;
 }
 
-static int all_are(const uint8_t *bytes, size_t count, uint8_t value)
-{
-    for (size_t i = 0; i < count; i++)
-        if (bytes[i] != value)
-            return 0;
-    return 1;
-}
-
 static void expect_inputs(const struct inputs *inputs)
 {
     struct inputs fresh = fresh_inputs();
@@ -116,12 +95,6 @@ static void expect_surroundings(const struct memory *memory, const struct inputs
     expect(all_are(memory->before, AROUND, 0xa5), "the bytes before the buffer changed");
     expect(all_are(memory->after, AROUND, 0xa5), "the bytes after the buffer changed");
     expect_inputs(inputs);
-}
-
-/* An empty byte string as C programs often have it. */
-static const uint8_t *null_if_empty(const uint8_t *bytes, size_t count)
-{
-    return count == 0 ? NULL : bytes;
 }
 
 static struct deoxys_sealed seal_message(const struct suite *suite, struct memory *memory)
@@ -146,15 +119,6 @@ static struct deoxys_opened open_message(const struct suite *suite, struct memor
                     null_if_empty(tag, tag_length), tag_length);
     expect_surroundings(memory, &in);
     return opened;
-}
-
-static void expect_bytes(const char *what, const uint8_t *bytes, size_t count, const char *hex)
-{
-    char seen[2 * MESSAGE_LENGTH + 1] = "";
-    for (size_t i = 0; i < count; i++)
-        snprintf(seen + 2 * i, 3, "%02x", bytes[i]);
-    printf("    %s %s\n", what, seen);
-    expect(strcmp(seen, hex) == 0, "other bytes were expected");
 }
 
 static void seal_and_open(const struct suite *suite)
@@ -514,6 +478,7 @@ int main(void)
         by_pieces(&suites[i]);
     }
     refuse_too_much();
+    records();
     printf("C: %d mismatches\n", mismatches);
     return mismatches == 0 ? 0 : 1;
 }

@@ -1,11 +1,13 @@
-//! Times the archive and the crate's files side by side, and sealing by pieces beside one call, and writes
-//! two tables.
+//! Times the archive and the crate's files side by side, sealing by pieces beside one call, and records beside
+//! a copy of their bytes, and writes three tables.
 #![forbid(unsafe_code)]
 
+mod records;
 mod stopwatch;
 
 use calibration::{LIMIT, SUITES};
 use cases::Case;
+use records::{RECORDS, Records, Work};
 use std::process::ExitCode;
 use stopwatch::{Operation, PIECE, ROUNDS, Side, Task};
 
@@ -14,6 +16,9 @@ const MESSAGE_LENGTHS: [usize; 5] = [16, 144, 4096, 65_536, 1_048_576];
 
 /// The time by pieces may be so many times that of one call.
 const MOST_BY_PIECES: f64 = 1.1;
+
+/// Reading a bundle may take the time of so many copies of its bytes.
+const MOST_COPIES: f64 = 2.0;
 
 fn main() -> ExitCode {
     if oracle::COUNTS_ROUNDS {
@@ -25,13 +30,22 @@ fn main() -> ExitCode {
     print_heading();
     let mut tasks = tasks(&sides());
     let mut by_pieces = tasks_by_pieces();
+    let mut records = Records::new();
     for _ in 0..ROUNDS {
         tasks.iter_mut().chain(&mut by_pieces).for_each(Task::measure);
+        records.measure();
     }
     tasks.iter().for_each(print_row);
     print_heading_by_pieces();
     by_pieces.iter().for_each(print_row_by_pieces);
-    if by_pieces.iter().all(is_fast_by_pieces) { ExitCode::SUCCESS } else { ExitCode::FAILURE }
+    print_heading_of_records(&records);
+    Work::ALL.iter().for_each(|work| print_row_of_records(&records, *work));
+    let are_read_fast = Work::ALL.iter().all(|work| is_fast_enough(&records, *work));
+    if by_pieces.iter().all(is_fast_by_pieces) && are_read_fast {
+        ExitCode::SUCCESS
+    } else {
+        ExitCode::FAILURE
+    }
 }
 
 /// A task for each row of the table.
@@ -88,9 +102,9 @@ fn print_heading() {
 }
 
 fn print_row(task: &Task) {
-    let ours = task.median(Side::Ours);
-    let with = task.median(Side::CrateWithInstructions);
-    let without = task.median(Side::CrateWithout);
+    let ours = task.times.median(Side::Ours);
+    let with = task.times.median(Side::CrateWithInstructions);
+    let without = task.times.median(Side::CrateWithout);
     let ratio = |crate_time: Option<f64>| crate_time.zip(ours).map(|(theirs, ours)| theirs / ours);
     println!(
         "| {} | {} | {} | {} | {} | {} | {} | {} |",
@@ -118,10 +132,10 @@ fn print_row_by_pieces(task: &Task) {
     println!(
         "| {} | {} | {} | {} | {} |",
         task.case.suite.name,
-        shown(task.median(Side::Ours), 0),
-        shown(task.median(Side::OursByPieces), 0),
+        shown(task.times.median(Side::Ours), 0),
+        shown(task.times.median(Side::OursByPieces), 0),
         shown(ratio_by_pieces(task), 3),
-        if is_fast_by_pieces(task) { "holds" } else { "DOES NOT HOLD" },
+        verdict(is_fast_by_pieces(task)),
     );
 }
 
@@ -130,8 +144,36 @@ fn is_fast_by_pieces(task: &Task) -> bool {
 }
 
 fn ratio_by_pieces(task: &Task) -> Option<f64> {
-    let one_call = task.median(Side::Ours);
-    task.median(Side::OursByPieces).zip(one_call).map(|(by_pieces, one_call)| by_pieces / one_call)
+    task.times.ratio(Side::OursByPieces, Side::Ours)
+}
+
+fn print_heading_of_records(records: &Records) {
+    println!(
+        "\nA bundle of {RECORDS} longest records, {} bytes, beside a copy of its bytes, in the same rounds: a \
+         ratio is the time over that of the copy, and for reading has to be at most {MOST_COPIES}.\n",
+        records.bytes()
+    );
+    println!("| work | time | time/copy | at most {MOST_COPIES} |");
+    println!("|---|---:|---:|---|");
+}
+
+fn print_row_of_records(records: &Records, work: Work) {
+    println!(
+        "| {} | {} | {} | {} |",
+        work.name(),
+        shown(records.times.median(work), 0),
+        shown(records.times.ratio(work, Work::Copying), 3),
+        if work.is_reading() { verdict(is_fast_enough(records, work)) } else { "-" },
+    );
+}
+
+fn is_fast_enough(records: &Records, work: Work) -> bool {
+    let ratio = records.times.ratio(work, Work::Copying);
+    !work.is_reading() || ratio.is_some_and(|ratio| ratio <= MOST_COPIES)
+}
+
+fn verdict(holds: bool) -> &'static str {
+    if holds { "holds" } else { "DOES NOT HOLD" }
 }
 
 fn shown(value: Option<f64>, decimals: usize) -> String {

@@ -38,14 +38,41 @@ impl Operation {
     }
 }
 
+/// Nanoseconds a call, for each side, one of each round.
+pub struct Times<Side>(Vec<(Side, Vec<f64>)>);
+
+impl<Side: Copy + PartialEq> Times<Side> {
+    pub fn new(sides: &[Side]) -> Self {
+        Times(sides.iter().map(|side| (*side, Vec::new())).collect())
+    }
+
+    pub fn sides(&self) -> Vec<Side> {
+        self.0.iter().map(|(side, _)| *side).collect()
+    }
+
+    pub fn note(&mut self, side: Side, time: f64) {
+        let times = self.0.iter_mut().find(|(s, _)| *s == side);
+        times.expect("the side is timed").1.push(time);
+    }
+
+    /// The median of a side, if the side was timed.
+    pub fn median(&self, side: Side) -> Option<f64> {
+        self.0.iter().find(|(s, _)| *s == side).map(|(_, times)| median(times.clone()))
+    }
+
+    /// How many times as long a side takes as another.
+    pub fn ratio(&self, side: Side, other: Side) -> Option<f64> {
+        self.median(side).zip(self.median(other)).map(|(time, other)| time / other)
+    }
+}
+
 pub struct Task {
     pub case: Case,
     pub operation: Operation,
     /// What each buffer holds before a call.
     input: Vec<u8>,
     tag: [u8; 16],
-    /// Nanoseconds a call, for each side, one of each round.
-    times: Vec<(Side, Vec<f64>)>,
+    pub times: Times<Side>,
 }
 
 impl Task {
@@ -58,23 +85,17 @@ impl Task {
             Operation::Sealing => case.message.clone(),
             Operation::Opening => ciphertext,
         };
-        let times = sides.iter().map(|side| (*side, Vec::new())).collect();
-        Task { case, operation, input, tag, times }
+        Task { case, operation, input, tag, times: Times::new(sides) }
     }
 
     /// One measurement more on each side.
     pub fn measure(&mut self) {
         let calls = (BYTES_OF_A_MEASUREMENT / self.input.len()).max(1);
         let mut buffers = vec![0; calls * self.input.len()];
-        for i in 0..self.times.len() {
-            let time = self.time(self.times[i].0, &mut buffers) / calls as f64;
-            self.times[i].1.push(time);
+        for side in self.times.sides() {
+            let time = self.time(side, &mut buffers) / calls as f64;
+            self.times.note(side, time);
         }
-    }
-
-    /// The median of a side, in nanoseconds a call, if the side was timed.
-    pub fn median(&self, side: Side) -> Option<f64> {
-        self.times.iter().find(|(s, _)| *s == side).map(|(_, times)| median(times.clone()))
     }
 
     fn time(&self, side: Side, buffers: &mut [u8]) -> f64 {

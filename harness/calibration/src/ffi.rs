@@ -1,4 +1,4 @@
-//! The archive's five functions as include/calibration.h declares them, and the only unsafe code over
+//! The archive's eight functions as include/calibration.h declares them, and the only unsafe code over
 //! them.
 
 /// The answer of a sealing.
@@ -57,6 +57,39 @@ pub struct Finished {
     pub rows: usize,
 }
 
+/// The answer of the writer of a record.
+#[repr(C)]
+#[derive(Clone, Copy, Debug, PartialEq, Eq)]
+pub struct Written {
+    pub number: u8,
+    pub length: usize,
+}
+
+/// The answer of the reader of a record. Places are counted from the start of the bytes given.
+#[repr(C)]
+#[derive(Clone, Copy, Debug, Default, PartialEq, Eq)]
+pub struct Record {
+    pub number: u8,
+    pub suite: u8,
+    pub row: u16,
+    pub nonce: usize,
+    pub nonce_length: usize,
+    pub note: usize,
+    pub note_length: usize,
+    pub cipher: usize,
+    pub cipher_length: usize,
+    pub tag: usize,
+    pub length: usize,
+}
+
+/// The answer of the reader of a bundle.
+#[repr(C)]
+#[derive(Clone, Copy, Debug, PartialEq, Eq)]
+pub struct Bundle {
+    pub number: u8,
+    pub records: usize,
+}
+
 unsafe extern "C" {
     fn deoxys_seal(
         suite: u8,
@@ -97,6 +130,25 @@ unsafe extern "C" {
     fn deoxys_take(state: Pieces, piece: *mut u8, piece_length: usize) -> Taken;
 
     fn deoxys_finish(state: Pieces) -> Finished;
+
+    fn calibration_write_record(
+        suite: u8,
+        row: u16,
+        nonce: *const u8,
+        nonce_length: usize,
+        note: *const u8,
+        note_length: usize,
+        cipher: *const u8,
+        cipher_length: usize,
+        tag: *const u8,
+        tag_length: usize,
+        destination: *mut u8,
+        destination_length: usize,
+    ) -> Written;
+
+    fn calibration_read_record(bytes: *const u8, bytes_length: usize, at: usize) -> Record;
+
+    fn calibration_read_bundle(bytes: *const u8, bytes_length: usize) -> Bundle;
 }
 
 pub fn seal(suite: u8, key: &[u8], nonce: &[u8], data: &[u8], buffer: &mut [u8]) -> Sealed {
@@ -168,9 +220,48 @@ pub fn finish(state: Pieces) -> Finished {
     unsafe { deoxys_finish(state) }
 }
 
+pub fn write_record(
+    suite: u8,
+    row: u16,
+    nonce: &[u8],
+    note: &[u8],
+    cipher: &[u8],
+    tag: &[u8],
+    destination: &mut [u8],
+) -> Written {
+    // SAFETY: as for `seal`, with the destination as the buffer.
+    unsafe {
+        calibration_write_record(
+            suite,
+            row,
+            nonce.as_ptr(),
+            nonce.len(),
+            note.as_ptr(),
+            note.len(),
+            cipher.as_ptr(),
+            cipher.len(),
+            tag.as_ptr(),
+            tag.len(),
+            destination.as_mut_ptr(),
+            destination.len(),
+        )
+    }
+}
+
+pub fn read_record(bytes: &[u8], at: usize) -> Record {
+    // SAFETY: the pointer is that of a slice with its own length, which is only read. There is no
+    // condition on the bytes or on the place.
+    unsafe { calibration_read_record(bytes.as_ptr(), bytes.len(), at) }
+}
+
+pub fn read_bundle(bytes: &[u8]) -> Bundle {
+    // SAFETY: as for `read_record`.
+    unsafe { calibration_read_bundle(bytes.as_ptr(), bytes.len()) }
+}
+
 #[cfg(test)]
 mod tests {
-    use super::{Finished, Opened, Pieces, Sealed, Subkeys, Taken};
+    use super::{Bundle, Finished, Opened, Pieces, Record, Sealed, Subkeys, Taken, Written};
     use std::mem::{offset_of, size_of};
 
     /// The layout that a C compiler gives the header's structs on x86-64.
@@ -217,5 +308,32 @@ mod tests {
         assert_eq!(offset_of!(Subkeys, rounds), 272);
         assert_eq!(size_of::<Subkeys>(), 280);
         assert_eq!(align_of::<Subkeys>(), 8);
+    }
+
+    #[test]
+    fn the_answers_on_records_are_laid_out_as_in_c() {
+        assert_eq!(offset_of!(Written, number), 0);
+        assert_eq!(offset_of!(Written, length), 8);
+        assert_eq!(size_of::<Written>(), 16);
+        assert_eq!(align_of::<Written>(), 8);
+
+        assert_eq!(offset_of!(Record, number), 0);
+        assert_eq!(offset_of!(Record, suite), 1);
+        assert_eq!(offset_of!(Record, row), 2);
+        assert_eq!(offset_of!(Record, nonce), 8);
+        assert_eq!(offset_of!(Record, nonce_length), 16);
+        assert_eq!(offset_of!(Record, note), 24);
+        assert_eq!(offset_of!(Record, note_length), 32);
+        assert_eq!(offset_of!(Record, cipher), 40);
+        assert_eq!(offset_of!(Record, cipher_length), 48);
+        assert_eq!(offset_of!(Record, tag), 56);
+        assert_eq!(offset_of!(Record, length), 64);
+        assert_eq!(size_of::<Record>(), 72);
+        assert_eq!(align_of::<Record>(), 8);
+
+        assert_eq!(offset_of!(Bundle, number), 0);
+        assert_eq!(offset_of!(Bundle, records), 8);
+        assert_eq!(size_of::<Bundle>(), 16);
+        assert_eq!(align_of::<Bundle>(), 8);
     }
 }

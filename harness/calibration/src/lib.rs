@@ -1,14 +1,16 @@
-//! The library `libcalibration.a` from Rust: Deoxys sealing and opening in place, and Deoxys-I sealing by
-//! pieces; slices in, a `Result` out.
+//! The library `libcalibration.a` from Rust: Deoxys sealing and opening in place, Deoxys-I sealing by pieces,
+//! and the house record written and read; slices in, a `Result` out.
 #![deny(unsafe_code)]
 #![deny(unsafe_op_in_unsafe_fn)]
 
 #[allow(unsafe_code)]
 pub mod ffi;
 mod pieces;
+mod records;
 mod suite;
 
 pub use pieces::{Pieces, Refused};
+pub use records::{Found, Record, RecordRefusal, read_bundle, read_record, write_record};
 pub use suite::{SUITES, Suite};
 
 use std::fmt;

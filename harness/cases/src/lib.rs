@@ -1,4 +1,5 @@
-//! Inputs that are the same in every run: a case is its suite, its lengths and its seed.
+//! Inputs that are the same in every run, a case being its suite, its lengths and its seed; every combination
+//! of some; and a buffer whose surroundings are watched.
 #![forbid(unsafe_code)]
 
 use calibration::Suite;
@@ -82,6 +83,29 @@ pub fn hex(bytes: &[u8]) -> String {
         return "-".to_string();
     }
     bytes.iter().map(|byte| format!("{byte:02x}")).collect()
+}
+
+/// Lends `work` a buffer that holds `bytes`. Gives what it holds then, and whether the bytes before and
+/// after it are untouched.
+pub fn surrounded<R>(bytes: &[u8], work: impl FnOnce(&mut [u8]) -> R) -> (R, Vec<u8>, bool) {
+    const AROUND: [u8; 32] = [0xa5; 32];
+    let mut memory = [&AROUND, bytes, &AROUND].concat();
+    let answer = work(&mut memory[32..32 + bytes.len()]);
+    let untouched = memory.starts_with(&AROUND) && memory.ends_with(&AROUND);
+    memory.truncate(32 + bytes.len());
+    memory.drain(..32);
+    (answer, memory, untouched)
+}
+
+/// Every way to choose one of each list.
+pub fn combinations(lists: &[Vec<usize>]) -> Vec<Vec<usize>> {
+    lists.iter().fold(vec![vec![]], |starts, list| {
+        let longer = |start: &Vec<usize>| {
+            let start = start.clone();
+            list.iter().map(move |next| [start.as_slice(), &[*next]].concat())
+        };
+        starts.iter().flat_map(longer).collect()
+    })
 }
 
 #[cfg(test)]

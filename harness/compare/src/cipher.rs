@@ -2,7 +2,7 @@
 
 use crate::report::{Kind, Part, Place, Report};
 use calibration::ffi;
-use cases::{Case, Generator};
+use cases::{Case, Generator, surrounded};
 use std::fmt::Debug;
 
 /// What an opening is given.
@@ -210,16 +210,4 @@ fn name(case: &Case, damage: Option<(Part, usize)>) -> String {
 
 fn xor(a: &[u8], b: &[u8]) -> Vec<u8> {
     a.iter().zip(b).map(|(a, b)| a ^ b).collect()
-}
-
-/// Lends `work` a buffer that holds `bytes`. Gives what it holds then, and whether the bytes before and
-/// after it are untouched.
-pub fn surrounded<R>(bytes: &[u8], work: impl FnOnce(&mut [u8]) -> R) -> (R, Vec<u8>, bool) {
-    const AROUND: [u8; 32] = [0xa5; 32];
-    let mut memory = [&AROUND, bytes, &AROUND].concat();
-    let answer = work(&mut memory[32..32 + bytes.len()]);
-    let untouched = memory.starts_with(&AROUND) && memory.ends_with(&AROUND);
-    memory.truncate(32 + bytes.len());
-    memory.drain(..32);
-    (answer, memory, untouched)
 }

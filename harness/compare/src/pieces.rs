@@ -1,10 +1,10 @@
 //! One case of Deoxys-I by pieces: cut at random, with calls that must be refused among them, against the
 //! crate's one call.
 
-use crate::cipher::{Calls, Checker, SealedByCrate, surrounded};
+use crate::cipher::{Calls, Checker, SealedByCrate};
 use crate::report::{Kind, Report, Step};
 use calibration::{LIMIT, ffi};
-use cases::{Case, Generator};
+use cases::{Case, Generator, surrounded};
 
 pub fn check(case: &Case, report: &mut Report) {
     let mut generator = Generator::new(!case.seed);

@@ -1,9 +1,8 @@
 //! Refusals 1 to 6, which the crate doesn't have: every combination of faults, and the first one decides.
 
-use crate::cipher::surrounded;
 use crate::report::{Kind, Place, Report};
 use calibration::{LIMIT, Suite, ffi};
-use cases::Generator;
+use cases::{Generator, combinations, surrounded};
 
 const SEED: u64 = 1;
 
@@ -35,16 +34,6 @@ pub fn check(suite: &Suite, report: &mut Report) {
             attempt.check_sealing(report);
         }
     }
-}
-
-fn combinations(lists: &[Vec<usize>]) -> Vec<Vec<usize>> {
-    lists.iter().fold(vec![vec![]], |starts, list| {
-        let longer = |start: &Vec<usize>| {
-            let start = start.clone();
-            list.iter().map(move |next| [start.as_slice(), &[*next]].concat())
-        };
-        starts.iter().flat_map(longer).collect()
-    })
 }
 
 /// A call that must be refused with `number`.
