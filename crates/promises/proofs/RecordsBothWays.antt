@@ -152,7 +152,7 @@ middle (x ∷ before) c after t = middle before c after (t .1)
 pub reads-the-bundle-that-was-written : Reads-the-bundle-that-was-written
 unfolding bundleReading bundled
 reads-the-bundle-that-was-written contents b t h e = (
-  e ∙ ap counted (bundle-back contents 64 t h),
+  e ∙ ap counted (bundle-back contents 64 t (omega (arith, h))),
   λ before after c r q a.
       let g = takes-good c (middle before c after (subst AllTaken q t)) in
       let l : drop (length (bundled before)) (bundled contents) ≡ written c ++ bundled after =
