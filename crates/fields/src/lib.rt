@@ -27,7 +27,8 @@ pub struct Part {
 pub fn wide(x: u8) -> usize
     ensures { λ r. ⌜ (r ≡ x) × (r < 256) ⌝ }
 {
-    x as usize
+    let number = x as usize;
+    number
 }
 
 // The number of two bytes, the higher first.
