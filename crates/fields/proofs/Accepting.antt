@@ -51,7 +51,8 @@ module _ {A : Type 0} where
       left (refused n) = []
       left (got v l) = l
 
-  pub picked : (b : Bool) (x : Read A) (n : ℕ) {value : A} {left : List ℕ} → pick b x (refused n) ≡ got value left → (b ≡ true) × (x ≡ got value left)
+  pub picked : (b : Bool) (x : Read A) (n : ℕ) {value : A} {left : List ℕ} → pick b x (refused n) ≡ got value left → (b ≡ true) ×
+      (x ≡ got value left)
   picked true x n e = (refl, e)
   picked false x n e = absurd (refused-not-got e)
 
@@ -62,7 +63,8 @@ pub record Through {A B : Type 0} (x : Read A) (f : A → List ℕ → Read B) (
   pub got-first : x ≡ got first between
   pub got-then : f first between ≡ got value left
 
-pub through : {A B : Type 0} (x : Read A) (f : A → List ℕ → Read B) {value : B} {left : List ℕ} → andThen x f ≡ got value left → Through x f value left
+pub through : {A B : Type 0} (x : Read A) (f : A → List ℕ → Read B) {value : B} {left : List ℕ} → andThen x f ≡ got value left → Through x f
+    value left
 through (refused n) f e = absurd (refused-not-got e)
 through (got a s) f e = record { first = a; between = s; got-first = refl; got-then = e }
 
@@ -136,7 +138,11 @@ taken-all (r ∷ rules) [] rest k e l = absurd (suc-ne-zero 11 e)
 taken-all (r ∷ rules) (body ∷ bodies) rest k e l =
     let t = tested r body (fieldsRefusal rules bodies) e in
     let m : length bodies ≡ length rules = omega arith in
-    rw (append-assoc (field (r .tag) body) (fields rules bodies) rest, taken r body (fields rules bodies ++ rest) (k .0) (t .0) (t .1), taken-all rules bodies rest (k .1) (t .2) m)
+    rw (
+      append-assoc (field (r .tag) body) (fields rules bodies) rest,
+      taken r body (fields rules bodies ++ rest) (k .0) (t .0) (t .1),
+      taken-all rules bodies rest (k .1) (t .2) m,
+    )
 
 pub record Mades (rules : List Rule) (s : List ℕ) (bodies : List (List ℕ)) (rest : List ℕ) : Type 0 where
   pub whole : s ≡ fields rules bodies ++ rest
@@ -153,7 +159,8 @@ unfolding fields fieldsRefusal
 one-more r rules s first mid final rest others bodies m i eb er = record {
   whole =
       m .whole
-      ∙ rw (← eb, ← er, append-assoc (field (r .tag) first) (fields rules others) final) (ap (λ (l : List ℕ). field (r .tag) first ++ l) (i .whole));
+      ∙ rw (← eb, ← er, append-assoc (field (r .tag) first) (fields rules others) final)
+      (ap (λ (l : List ℕ). field (r .tag) first ++ l) (i .whole));
   number = rw (← eb) (simp (m .sized, m .good, i .number));
   count = rw (← eb) (ap suc (i .count));
 }
@@ -208,7 +215,8 @@ took-more r rules s first mid final rest others bodies m i eb er =
       count = rw (← eb) (ap suc (i .count));
     }
 
-pub took-all : (rules : List Rule) (s : List ℕ) (bodies : List (List ℕ)) (rest : List ℕ) → takeFields rules s ≡ got bodies rest → Took rules s bodies rest
+pub took-all : (rules : List Rule) (s : List ℕ) (bodies : List (List ℕ)) (rest : List ℕ) → takeFields rules s ≡ got bodies rest → Took rules
+    s bodies rest
 unfolding takeFields fields
 took-all [] s bodies rest e =
     record { left = sym (got-left e); within = omega arith; sized = tt; count = sym (ap length (got-value e)) }

@@ -28,7 +28,8 @@ module _ (r : Rule) (s : List ℕ) (at : ℕ) (p : Part) (f : FieldRead (r .tag)
   -- as the rule tests it
   tested : (x : Read (List ℕ)) → takeField (plain (r .tag) (r .least) (r .greatest)) (drop at s) ≡ x
       → takeField r (drop at s) ≡ andThen x (λ body left. pick (r .inRange body) (got body left) (refused 13))
-  tested x e = ranged r (drop at s) ∙ ap (λ (y : Read (List ℕ)). andThen y (λ body left. pick (r .inRange body) (got body left) (refused 13))) e
+  tested x e = ranged r (drop at s) ∙ ap (λ (y : Read (List ℕ)). andThen y
+      (λ body left. pick (r .inRange body) (got body left) (refused 13))) e
 
   pub field-refused : (p .number ≡ 0 → ⊥) → takeField r (drop at s) ≡ refused (p .number)
   field-refused h = tested (refused (p .number)) (f .given ∙ answered-refused _ _ _ h)

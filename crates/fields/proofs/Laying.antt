@@ -22,7 +22,13 @@ module _ (d a b : List ℕ) (at : ℕ) (fits : at + length a ≤ length d) where
 
   pub laid-next : laidAt (at + length a) b (laidAt at a d) ≡ laidAt at (a ++ b) d
   laid-next =
-      rw (put-take d a at (length a) fits refl, kept, append-assoc (take at d) a (b ++ drop (at + length (a ++ b)) d), append-assoc a b (drop (at + length (a ++ b)) d))
+      rw (
+        put-take d a at (length a) fits refl,
+        kept,
+        append-assoc (take at d) a (b ++ drop (at + length (a ++ b)) d),
+        append-assoc a b
+            (drop (at + length (a ++ b)) d),
+      )
 
 pub field-length : (tag : ℕ) (body : List ℕ) → length (field tag body) ≡ 3 + length body
 unfolding field bigEndian

@@ -82,7 +82,8 @@ pub ranged : (r : Rule) (s : List ℕ)
 unfolding takeField
 ranged r s =
     let f : List ℕ → List ℕ → Read (List ℕ) = λ body left. pick (r .inRange body) (got body left) (refused 13) in
-    let e : andThen (got (take (told s) (drop 3 s)) (drop (told s) (drop 3 s))) f ≡ f (take (told s) (drop 3 s)) (drop (told s) (drop 3 s)) = refl in
+    let e : andThen (got (take (told s) (drop 3 s)) (drop (told s) (drop 3 s))) f ≡ f (take (told s) (drop 3 s)) (drop (told s) (drop 3 s))
+    = refl in
     sym
     (then-pick (leb 3 (length s)) _ _ 10 f
     (then-pick (eqb (getD s 0 0) (r .tag)) _ _ 11 f

@@ -70,7 +70,8 @@ fields-join (r ∷ first) others s = next (λ left. fields-join first others lef
         inner (got more end) bodies = refl
 
         swap : (x : Read (List (List ℕ)))
-            → andThen (andThen x (λ bodies after. andThen (takeFields others after) (λ more end. got (bodies ++ more) end))) (λ all after. got (body ∷ all) after)
+            → andThen (andThen x (λ bodies after. andThen (takeFields others after) (λ more end. got (bodies ++ more) end)))
+            (λ all after. got (body ∷ all) after)
             ≡ andThen (andThen x (λ bodies after. got (body ∷ bodies) after))
             (λ bodies left. andThen (takeFields others left) (λ more after. got (bodies ++ more) after))
         swap (refused n) = refl

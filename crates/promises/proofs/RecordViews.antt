@@ -41,7 +41,8 @@ outcome n text d w e = by (eqb n 0) (leb (length text) (length d)) refl refl
     by true true p q =
         let z = eqb-true n 0 p in
         let h = leb-true (length text) (length d) q in
-        laid z h (e ∙ sym (done-out n text d z (length text) (text ++ drop (length text) d) refl (sym (ap (λ (k : ℕ). text ++ drop k d) (zero-add (length text)))) h))
+        laid z h (e ∙ sym (done-out n text d z (length text) (text ++ drop (length text) d) refl
+        (sym (ap (λ (k : ℕ). text ++ drop k d) (zero-add (length text)))) h))
     by true false p q =
         let z = eqb-true n 0 p in
         let h = leb-false (length text) (length d) q in
@@ -131,7 +132,8 @@ lies s at c rest r k t e =
     }
 
 -- what is written at a place is read there
-pub reads-written : (s : List ℕ) (at : ℕ) (c : Content) (rest : List ℕ) (r : Record) → Good c → drop at s ≡ written c ++ rest → ReadAllows s at r
+pub reads-written : (s : List ℕ) (at : ℕ) (c : Content) (rest : List ℕ) (r : Record) → Good c → drop at s ≡ written c ++ rest → ReadAllows s
+    at r
     → r ≡ foundAt at c
 unfolding reading
 reads-written s at c rest r g e a = a ∙ rw (e, read-back c rest g)

@@ -173,7 +173,8 @@ out-of greatest n h = by (leb 1 n) (leb n greatest) refl refl
 in-of : (greatest n : ℕ) → InRange greatest n → _≡_ {A = ℕ} 0 (pick (between 1 greatest n) 0 13)
 in-of greatest n h = simp (le-leb 1 n (h .0), le-leb n greatest (h .1))
 
-module _ (c : Content) (d : List ℕ) (w : Writing) (fits : c .row < 65536) (o : Outcome (fieldsRefusal (rules (c .suite)) (bodies c)) (written c) d w) where
+module _ (c : Content) (d : List ℕ) (w : Writing) (fits : c .row < 65536)
+    (o : Outcome (fieldsRefusal (rules (c .suite)) (bodies c)) (written c) d w) where
   -- the writer's number is the fields'
   numbered : (n : ℕ) → n ≡ fieldsRefusal (rules (c .suite)) (bodies c) → (n ≡ 0 → ⊥) → w .answer .number ≡ n
   numbered n e h = by o

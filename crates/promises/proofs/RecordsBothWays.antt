@@ -117,7 +117,14 @@ bundle-then [] more rest t = rw (zero-add more) (sym (then-same (takeRecords mor
     then-same (got others after) = refl
 bundle-then (c ∷ contents) more rest t =
     let n : length (c ∷ contents) + more ≡ suc (length contents + more) = omega arith in
-    rw (n, append-assoc (written c) (bundled contents) rest, some-bytes c (bundled contents ++ rest), read-back c (bundled contents ++ rest) (takes-good c (t .0)), bundle-then contents more rest (t .1))
+    rw (
+      n,
+      append-assoc (written c) (bundled contents) rest,
+      some-bytes c (bundled contents ++ rest),
+      read-back c (bundled contents ++ rest)
+          (takes-good c (t .0)),
+      bundle-then contents more rest (t .1),
+    )
     (again (takeRecords more rest))
   where
     again : (x : Read (List Content))
@@ -137,7 +144,8 @@ pub bundle-back : (contents : List Content) (allowed : ℕ) → AllTaken content
 bundle-back contents allowed t h =
     let n : length contents + (allowed - length contents) ≡ allowed = omega arith in
     let e = bundle-then contents (allowed - length contents) [] t in
-    (rw (n, append-nil (bundled contents), no-more (allowed - length contents)) at e) ∙ ap (λ (l : List Content). got l []) (append-nil contents)
+    (rw (n, append-nil (bundled contents), no-more (allowed - length contents)) at e) ∙ ap (λ (l : List Content). got l [])
+    (append-nil contents)
 
 bundled-join : (before after : List Content) → bundled (before ++ after) ≡ bundled before ++ bundled after
 unfolding bundled
@@ -212,7 +220,12 @@ kept-one : (allowed : ℕ) (s : List ℕ) (c : Content) (left : List ℕ) (other
 unfolding bundled
 kept-one allowed s c left others contents w g k e =
     subst (λ (l : List Content). Kept (suc allowed) s l) e
-    (record { taken = (good-takes c g, k .taken); same = w ∙ ap (λ (l : List ℕ). written c ++ l) (k .same); few = let f = k .few in omega (arith, f) })
+    (record {
+      taken = (good-takes c g, k .taken);
+      same = w ∙ ap (λ (l : List ℕ). written c ++ l) (k .same);
+      few = let f = k .few in omega
+          (arith, f);
+    })
 
 kept : (allowed : ℕ) (s : List ℕ) (contents : List Content) (rest : List ℕ) → Bytes s → takeRecords allowed s ≡ got contents rest
     → Kept allowed s contents
@@ -224,7 +237,8 @@ kept zero s contents rest b e = by (eqb (length s) 0) refl e
     by false z e = absurd (refused-not-got e)
 kept (suc allowed) s contents rest b e = by (λ left others after h q. kept allowed left others after h q) (eqb (length s) 0) refl e
   where
-    by : ((left : List ℕ) (others : List Content) (after : List ℕ) → Bytes left → takeRecords allowed left ≡ got others after → Kept allowed left others)
+    by : ((left : List ℕ) (others : List Content) (after : List ℕ) → Bytes left → takeRecords allowed left ≡ got others after → Kept allowed
+        left others)
         → (z : Bool) → eqb (length s) 0 ≡ z
         → pick z (got [] s) (andThen (takeRecord s) (λ c left. andThen (takeRecords allowed left) (λ others after. got (c ∷ others) after)))
         ≡ got contents rest

@@ -1,13 +1,14 @@
 -- The fields of suite and row: each return of `head_refusal`.
 -- Assumes nothing.
-use mathlib.Core.Path.{_≡_, refl, sym, ap, _∙_}
+use mathlib.Core.Path.{_≡_, refl, sym, ap, _∙_, subst}
 use mathlib.Core.Bool.{Bool, true, false}
 use mathlib.Core.List.{List, [], _∷_}
-use Prim.Native.Nat.{ℕ, _≤_}
+use Prim.Native.Nat.{ℕ, _-_, _≤_}
 use native.Mathlib.Nat.{suc-ne-zero}
 use native.Mathlib.Omega.{arith}
-use lib.ListN.{length, drop, getD}
+use lib.ListN.{length, take, drop, getD}
 use Rattle.octets.specs.Octets.{pick}
+use Rattle.octets.proofs.Parts.{rest-is}
 use Rattle.fields.specs.declared.Part.{Part}
 use Rattle.fields.specs.Fields.{between, number2, refused, got, andThen, takeFields}
 use Rattle.record.specs.HouseRecord.{suiteRule, rowRule, rowOf}
@@ -44,7 +45,8 @@ module _ (s : List ℕ) where
           rw (e, b) (no-head 13 (suc-ne-zero 12) (stop suiteRule _ s 13 (field-out suiteRule s 0 p f z (rw one (suite-byte ∙ b)))))
 
       module _ (n : ℕ) (range : n ≡ pick (between 1 4 (getD s 3 0)) 0 13) (in-suites : n ≡ 0) where
-        after-suite : takeFields (suiteRule ∷ rowRule ∷ []) s ≡ andThen (takeFields (rowRule ∷ []) (drop 4 s)) (λ bodies after. got (part s 3 1 ∷ bodies) after)
+        after-suite : takeFields (suiteRule ∷ rowRule ∷ []) s ≡ andThen (takeFields (rowRule ∷ []) (drop 4 s))
+            (λ bodies after. got (part s 3 1 ∷ bodies) after)
         after-suite =
             go suiteRule _ s _ _
             (rw one at (field-got suiteRule s 0 p f z (rw one (suite-byte ∙ in-range _ (sym range ∙ in-suites)))))
@@ -52,7 +54,10 @@ module _ (s : List ℕ) where
         then-refused : (n : ℕ) → takeFields (rowRule ∷ []) (drop 4 s) ≡ refused n → takeFields (suiteRule ∷ rowRule ∷ []) s ≡ refused n
         then-refused n e = after-suite ∙ rw e
 
-        module _ (q : Part) (g : FieldRead 2 2 2 (drop 4 s) q) where
+        module _ (q : Part) (lent : FieldRead 2 2 2 (take (length s - 4) (drop 4 s)) q) where
+          g : FieldRead 2 2 2 (drop 4 s) q
+          g = subst (λ (l : List ℕ). FieldRead 2 2 2 l q) (rest-is s 4) lent
+
           pub row-refused : (q .number ≡ 0 → ⊥) → HeadRead s (q .number)
           row-refused h = no-head _ h (then-refused _ (stop rowRule [] (drop 4 s) _ (field-refused rowRule s 4 q g h)))
 

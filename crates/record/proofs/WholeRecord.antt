@@ -40,7 +40,14 @@ unfolding bigEndian
 row-back n h = omega arith
 
 content-back : (c : Content) → c .row < 65536 → contentOf (bodies c) ≡ c
-content-back c h = ap (λ (row : ℕ). record { suite = c .suite; row = row; nonce = c .nonce; note = c .note; cipher = c .cipher; tag = c .tag }) (row-back (c .row) h)
+content-back c h = ap (λ (row : ℕ). record {
+  suite = c .suite;
+  row = row;
+  nonce = c .nonce;
+  note = c .note;
+  cipher = c .cipher;
+  tag = c .tag;
+}) (row-back (c .row) h)
 
 suite-fourth : (c : Content) (rest : List ℕ) → getD (written c ++ rest) 3 0 ≡ c .suite
 unfolding written fields field bigEndian
@@ -112,7 +119,8 @@ six (a ∷ b ∷ c ∷ d ∷ f ∷ []) e = absurd (suc-ne-zero 0 (omega (arith, 
 six (a ∷ b ∷ c ∷ d ∷ f ∷ g ∷ []) e = refl
 six (a ∷ b ∷ c ∷ d ∷ f ∷ g ∷ h ∷ l) e = absurd (suc-ne-zero (length l) (omega (arith, e)))
 
-of-found : (s : List ℕ) (found : List (List ℕ)) (rest : List ℕ) → Bytes s → Mades (rules (getD s 3 0)) s found rest → Accepted s (contentOf found) rest
+of-found : (s : List ℕ) (found : List (List ℕ)) (rest : List ℕ) → Bytes s → Mades (rules (getD s 3 0)) s found rest → Accepted s
+    (contentOf found) rest
 unfolding fieldsRefusal
 of-found s found rest h m =
     let b₁ = getD found 0 [] in
@@ -133,7 +141,8 @@ accepted-record s c rest h e =
     let a = through (takeFields (rules (getD s 3 0)) s) _ e in
     let m = accepted-all (rules (getD s 3 0)) s (a .first) (a .between) h (a .got-first) in
     let f = of-found s (a .first) (a .between) h m in
-    subst (λ (x : Content). Accepted s x rest) (got-value (a .got-then)) (subst (λ (l : List ℕ). Accepted s (contentOf (a .first)) l) (got-left (a .got-then)) f)
+    subst (λ (x : Content). Accepted s x rest) (got-value (a .got-then))
+    (subst (λ (l : List ℕ). Accepted s (contentOf (a .first)) l) (got-left (a .got-then)) f)
 
 pub record-not-zero : (s : List ℕ) → NotZero (takeRecord s)
 unfolding takeRecord

@@ -112,7 +112,8 @@ pub record Fit (n : ℕ) (nonce note cipher tag : List ℕ) : Type 0 where
   pub of-cipher : length cipher ≤ 4096
   pub of-tag : length tag ≡ 16
 
-pub fit : (n : ℕ) (nonce note cipher tag : List ℕ) → fieldsRefusal (textRules n) (nonce ∷ note ∷ cipher ∷ tag ∷ []) ≡ 0 → Fit n nonce note cipher tag
+pub fit : (n : ℕ) (nonce note cipher tag : List ℕ) → fieldsRefusal (textRules n) (nonce ∷ note ∷ cipher ∷ tag ∷ []) ≡ 0 → Fit n nonce note
+    cipher tag
 unfolding fieldsRefusal
 fit n nonce note cipher tag e =
     let t₁ = tested (plain 3 n n) nonce _ e in
@@ -167,7 +168,8 @@ module _ (n : ℕ) (text destination : List ℕ) where
     pub done-out : (bytes : ℕ) (d : List ℕ) → bytes ≡ length text → d ≡ laidAt 0 text destination → length text ≤ length destination
         → _≡_ {A = Writing} (record { answer = record { number = 0; length = bytes }; destination = d }) (laidOut n text destination)
     done-out bytes d e f h =
-        rw (e, f ∙ ap (λ (k : ℕ). text ++ drop k destination) (zero-add (length text)), z) (simp (le-leb (length text) (length destination) h) refl)
+        rw (e, f ∙ ap (λ (k : ℕ). text ++ drop k destination) (zero-add (length text)), z)
+        (simp (le-leb (length text) (length destination) h) refl)
 
 -- ---- six fields laid one after another
 
@@ -180,7 +182,8 @@ laid-length : (d a : List ℕ) (at : ℕ) → at + length a ≤ length d → len
 laid-length d a at h = put-length d a at (length a) h refl
 
 -- the same for a field, with the length of the destination
-module _ (d d₁ : List ℕ) (tag : ℕ) (body : List ℕ) (at next : ℕ) (h : at + 3 + length body ≤ length d) (e : d₁ ≡ laidAt at (field tag body) d) (n : next ≡ at + 3 + length body) where
+module _ (d d₁ : List ℕ) (tag : ℕ) (body : List ℕ) (at next : ℕ) (h : at + 3 + length body ≤ length d)
+    (e : d₁ ≡ laidAt at (field tag body) d) (n : next ≡ at + 3 + length body) where
   room : at + length (field tag body) ≤ length d
   room = let l = field-length tag body in omega (arith, l, h)
 
@@ -219,7 +222,8 @@ six-laid c d₀ d₁ d₂ d₃ d₄ d₅ d₆ row a₁ a₂ a₃ a₄ a₅ h r e
     ∙ f₃ (field 4 (c .note) ++ (field 5 (c .cipher) ++ (field 6 (c .tag) ++ [])))
     ∙ f₂ (field 3 (c .nonce) ++ (field 4 (c .note) ++ (field 5 (c .cipher) ++ (field 6 (c .tag) ++ []))))
     ∙ f₁ (field 2 row ++ (field 3 (c .nonce) ++ (field 4 (c .note) ++ (field 5 (c .cipher) ++ (field 6 (c .tag) ++ [])))))
-    ∙ ap (λ (x : List ℕ). laidAt 0 (field 1 (c .suite ∷ []) ++ (field 2 x ++ (field 3 (c .nonce) ++ (field 4 (c .note) ++ (field 5 (c .cipher) ++ (field 6 (c .tag) ++ [])))))) d₀) r
+    ∙ ap (λ (x : List ℕ). laidAt 0 (field 1 (c .suite ∷ []) ++ (field 2 x ++
+    (field 3 (c .nonce) ++ (field 4 (c .note) ++ (field 5 (c .cipher) ++ (field 6 (c .tag) ++ [])))))) d₀) r
 
 -- the two bytes of a row as the code makes them
 pub row-spelt : (row : ℕ) → row < 65536 → row / 256 ∷ row % 256 ∷ [] ≡ bigEndian 2 row
@@ -237,7 +241,8 @@ module _ (row n : ℕ) (note : List ℕ) (fits : row < 65536) (e : n ≡ pick (b
 
   module _ (z : n ≡ 0) where
     after-row : (m : ℕ) → m ≡ fieldRefusal noteRule note → m ≡ fieldsRefusal (rowRule ∷ noteRule ∷ []) (bigEndian 2 row ∷ note ∷ [])
-    after-row m f = others-decide rowRule (noteRule ∷ []) (bigEndian 2 row) (note ∷ []) m (f ∙ one-field noteRule note) (row-number row fits ∙ sym e ∙ z)
+    after-row m f = others-decide rowRule (noteRule ∷ []) (bigEndian 2 row) (note ∷ []) m (f ∙ one-field noteRule note)
+        (row-number row fits ∙ sym e ∙ z)
 
     pub data-note : 1024 < length note → _≡_ {A = ℕ} 12 (fieldsRefusal (rowRule ∷ noteRule ∷ []) (bigEndian 2 row ∷ note ∷ []))
     data-note h = after-row 12 (too-long 4 0 1024 note (omega arith) h)

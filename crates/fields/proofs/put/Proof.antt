@@ -38,7 +38,14 @@ loop-less : tie.Need-loop-less Inv-loop μ-loop
 loop-less c = search needs
 
 loop-again : tie.Need-loop-again Inv-loop μ-loop
-loop-again c = let a = c .before .before .before .args in let l = c .before .before .loop in (put-turn (a .destination .now) (a .body .now) (a .at) _ (search needs) refl (l .destination) (l .i) (search needs) (l .inv .0), omega arith, simp length-set (l .inv .2))
+loop-again c =
+    let a = c .before .before .before .args in
+    let l = c .before .before .loop in (
+      put-turn (a .destination .now) (a .body .now) (a .at) _ (search needs) refl (l .destination) (l .i) (search needs) (l .inv .0),
+      omega
+          arith,
+      simp length-set (l .inv .2),
+    )
 
 add-result : tie.Need-add-result Inv-loop μ-loop
 add-result c = search needs
@@ -47,7 +54,10 @@ same-length : tie.Need-same-length Inv-loop μ-loop
 same-length c = search needs
 
 returns : tie.Need-returns Inv-loop μ-loop
-returns c = let a = c .before .before .args in let l = c .before .loop in (refl, put-end (a .destination .now) (a .body .now) (a .at) _ (search needs) refl (l .destination) (l .i) (omega arith) (l .inv .0))
+returns c =
+    let a = c .before .before .args in
+    let l = c .before .loop in
+    (refl, put-end (a .destination .now) (a .body .now) (a .at) _ (search needs) refl (l .destination) (l .i) (omega arith) (l .inv .0))
 
 pub put-spec : {M : Type 1} → statement M
 put-spec =

@@ -25,7 +25,15 @@ same-length : tie.Need-same-length
 same-length c = search needs
 
 returns : tie.Need-returns
-returns c = let a = c .before .before .before .before .before .before .before .before .before .before .before .args in (rw (c .before .before .put2 .ensures .0, c .before .before .before .before .before .before .put .ensures .0), laid-field (a .destination .now) _ _ (a .body .now) (a .at) _ (a .tag) _ _ (search needs) (search needs) (c .before .before .before .before .before .before .put .ensures .0) (c .before .before .before .before .before .before .put .ensures .1) (c .before .before .put2 .ensures .1) refl refl)
+returns c =
+    let c₁ = c .before .before in
+    let c₂ = c₁ .before .before .before .before in
+    let c₃ = c₂ .before .before .before .before .before in
+    let a = c₃ .args in (
+      rw (c₁ .put2 .ensures .0, c₂ .put .ensures .0),
+      laid-field (a .destination .now) _ _ (a .body .now) (a .at) _ (a .tag) _ _
+          (search needs) (search needs) (c₂ .put .ensures .0) (c₂ .put .ensures .1) (c₁ .put2 .ensures .1) refl refl,
+    )
 
 pub put-field-spec : {M : Type 1} → statement M
 put-field-spec =

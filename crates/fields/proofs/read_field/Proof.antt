@@ -36,10 +36,31 @@ refused-requires-2 : tie.Need-refused-requires-2
 refused-requires-2 c κs = search needs
 
 returns-2 : tie.Need-returns-2
-returns-2 c = rw (c .refused2 .ensures) (not-read (c .before .before .before .before .before .before .before .before .before .before .args .tag) (c .before .before .before .before .before .before .before .before .before .before .args .least) (c .before .before .before .before .before .before .before .before .before .before .args .greatest) (c .before .before .before .before .before .before .before .before .before .before .args .left .now) (c .before .before .before .before .before .before .before .before .if1 .left) _ _ _ _ (c .before .before .before .before .before .tag-refusal .ensures) (rw (c .before .before .before .before .before .before .before .pair .ensures .0) at (c .before .before .before .before .outside .ensures)) (rw (c .before .before .before .before .before .before .before .pair .ensures .0) at (c .before .before .before .outside2 .ensures)) (c .before .before .first-of .ensures) (c .before .if2 .taken))
+returns-2 c =
+    let c₁ = c .before in
+    let c₂ = c₁ .before in
+    let c₃ = c₂ .before in
+    let c₄ = c₃ .before in
+    let c₅ = c₄ .before in
+    let c₆ = c₅ .before .before in
+    let c₇ = c₆ .before in
+    let c₈ = c₇ .before .before in
+    rw (c .refused2 .ensures) (not-read (c₈ .args .tag) (c₈ .args .least) (c₈ .args .greatest) (c₈ .args .left .now) (c₇ .if1 .left) _ _ _ _
+    (c₅ .tag-refusal .ensures) (rw (c₆ .pair .ensures .0) at (c₄ .outside .ensures))
+    (rw (c₆ .pair .ensures .0) at (c₃ .outside2 .ensures)) (c₂ .first-of .ensures) (c₁ .if2 .taken))
 
 returns-3 : tie.Need-returns-3
-returns-3 c = rw (c .before .before .before .before .before .before .pair .ensures .0) (is-read (c .before .before .before .before .before .before .before .before .before .args .tag) (c .before .before .before .before .before .before .before .before .before .args .least) (c .before .before .before .before .before .before .before .before .before .args .greatest) (c .before .before .before .before .before .before .before .before .before .args .left .now) (c .before .before .before .before .before .before .before .if1 .left) _ _ _ _ (c .before .before .before .before .tag-refusal .ensures) (rw (c .before .before .before .before .before .before .pair .ensures .0) at (c .before .before .before .outside .ensures)) (rw (c .before .before .before .before .before .before .pair .ensures .0) at (c .before .before .outside2 .ensures)) (c .before .first-of .ensures) (c .if2 .left))
+returns-3 c =
+    let c₁ = c .before in
+    let c₂ = c₁ .before in
+    let c₃ = c₂ .before in
+    let c₄ = c₃ .before in
+    let c₅ = c₄ .before .before in
+    let c₆ = c₅ .before in
+    let c₇ = c₆ .before .before in
+    rw (c₅ .pair .ensures .0) (is-read (c₇ .args .tag) (c₇ .args .least) (c₇ .args .greatest) (c₇ .args .left .now) (c₆ .if1 .left) _ _ _ _
+    (c₄ .tag-refusal .ensures) (rw (c₅ .pair .ensures .0) at (c₃ .outside .ensures))
+    (rw (c₅ .pair .ensures .0) at (c₂ .outside2 .ensures)) (c₁ .first-of .ensures) (c .if2 .left))
 
 pub read-field-spec : {M : Type 1} → statement M
 read-field-spec =

@@ -28,7 +28,9 @@ read-left-requires c κs = search needs
 
 returns-2 : tie.Need-returns-2
 unfolding reading
-returns-2 c = c .read-left .ensures ∙ rw (rest-is (c .before .before .before .before .args .bytes .now) (c .before .before .before .before .args .at))
+returns-2 c =
+    let c₁ = c .before .before .before .before in
+    c .read-left .ensures ∙ rw (rest-is (c₁ .args .bytes .now) (c₁ .args .at))
 
 pub read-spec : {M : Type 1} → statement M
 read-spec =

@@ -24,7 +24,13 @@ no-bundle-requires : tie.Need-no-bundle-requires Inv-loop μ-loop
 no-bundle-requires c κs = search needs
 
 returns : tie.Need-returns Inv-loop μ-loop
-returns c = c .no-bundle .ensures ∙ bundle-full (c .before .before .before .before .before .args .bytes .now) (c .before .before .before .loop .at) (c .before .before .before .loop .records) (c .before .before .before .loop .inv .0) (c .before .before .loop-test .taken) (c .before .if1 .taken)
+returns c =
+    let c₁ = c .before in
+    let c₂ = c₁ .before in
+    let c₃ = c₂ .before in
+    let c₄ = c₃ .before .before in
+    c .no-bundle .ensures ∙ bundle-full (c₄ .args .bytes .now) (c₃ .loop .at) (c₃ .loop .records) (c₃ .loop .inv .0) (c₂ .loop-test .taken)
+    (c₁ .if1 .taken)
 
 read-requires : tie.Need-read-requires Inv-loop μ-loop
 read-requires c κs = search needs
@@ -33,22 +39,59 @@ no-bundle-requires-2 : tie.Need-no-bundle-requires-2 Inv-loop μ-loop
 no-bundle-requires-2 c κs = search needs
 
 returns-2 : tie.Need-returns-2 Inv-loop μ-loop
-returns-2 c = let l = c .before .before .before .before .before .before .loop in c .no-bundle2 .ensures ∙ bundle-bad (c .before .before .before .before .before .before .before .before .args .bytes .now) (l .at) (l .records) (l .inv .0) (c .before .before .before .before .before .loop-test .taken) (omega (arith, l .inv .2, c .before .before .before .before .if1 .left)) _ (was-refused (c .before .before .before .before .before .before .before .before .args .bytes .now) (l .at) _ (c .before .before .before .read .ensures) (c .before .if2 .taken))
+returns-2 c =
+    let c₁ = c .before in
+    let c₂ = c₁ .before .before in
+    let c₃ = c₂ .before in
+    let c₄ = c₃ .before in
+    let c₅ = c₄ .before in
+    let c₆ = c₅ .before .before in
+    let l = c₅ .loop in
+    c .no-bundle2 .ensures ∙ bundle-bad (c₆ .args .bytes .now) (l .at) (l .records) (l .inv .0) (c₄ .loop-test .taken)
+    (omega (arith, l .inv .2, c₃ .if1 .left)) _ (was-refused (c₆ .args .bytes .now) (l .at) _ (c₂ .read .ensures) (c₁ .if2 .taken))
 
 add-at : tie.Need-add-at Inv-loop μ-loop
-add-at c = let l = c .before .before .before .before .before .before .loop in let f = was-read (c .before .before .before .before .before .before .before .before .args .bytes .now) (l .at) _ (c .before .before .before .read .ensures) (c .before .if2 .left) in let h = f .within in search (h, needs)
+add-at c =
+    let c₁ = c .before in
+    let c₂ = c₁ .before .before in
+    let c₃ = c₂ .before .before .before in
+    let c₄ = c₃ .before .before in
+    let l = c₃ .loop in
+    let f = was-read (c₄ .args .bytes .now) (l .at) _ (c₂ .read .ensures) (c₁ .if2 .left) in
+    let h = f .within in
+    search (h, needs)
 
 add-records : tie.Need-add-records Inv-loop μ-loop
 add-records c = search needs
 
 loop-less : tie.Need-loop-less Inv-loop μ-loop
-loop-less c = let l = c .before .before .before .before .before .before .loop in omega (arith, l .inv .2, c .before .before .before .before .if1 .left)
+loop-less c =
+    let c₁ = c .before .before .before .before in
+    let c₂ = c₁ .before .before in
+    let l = c₂ .loop in
+    omega (arith, l .inv .2, c₁ .if1 .left)
 
 loop-again : tie.Need-loop-again Inv-loop μ-loop
-loop-again c = let l = c .before .before .before .before .before .before .loop in let f = was-read (c .before .before .before .before .before .before .before .before .args .bytes .now) (l .at) _ (c .before .before .before .read .ensures) (c .before .if2 .left) in (bundle-next (c .before .before .before .before .before .before .before .before .args .bytes .now) (l .at) (l .records) (l .inv .0) (c .before .before .before .before .before .loop-test .taken) (omega (arith, l .inv .2, c .before .before .before .before .if1 .left)) (f .content) (l .at + c .before .before .before .read .result .length) (f .taken), omega (arith, f .within, c .before .before .before .before .before .loop-test .taken), omega (arith, l .inv .2, c .before .before .before .before .if1 .left))
+loop-again c =
+    let c₁ = c .before in
+    let c₂ = c₁ .before .before in
+    let c₃ = c₂ .before in
+    let c₄ = c₃ .before in
+    let c₅ = c₄ .before in
+    let c₆ = c₅ .before .before in
+    let l = c₅ .loop in
+    let f = was-read (c₆ .args .bytes .now) (l .at) _ (c₂ .read .ensures) (c₁ .if2 .left) in (
+      bundle-next (c₆ .args .bytes .now) (l .at) (l .records) (l .inv .0) (c₄ .loop-test .taken) (omega (arith, l .inv .2, c₃ .if1 .left))
+          (f .content) (l .at + c₂ .read .result .length) (f .taken),
+      omega (arith, f .within, c₄ .loop-test .taken),
+      omega
+          (arith, l .inv .2, c₃ .if1 .left),
+    )
 
 returns-3 : tie.Need-returns-3 Inv-loop μ-loop
-returns-3 c = let l = c .before .loop in bundle-end (c .before .before .before .args .bytes .now) (l .at) (l .records) (l .inv .0) (omega (arith, c .loop-test .left))
+returns-3 c =
+    let l = c .before .loop in
+    bundle-end (c .before .before .before .args .bytes .now) (l .at) (l .records) (l .inv .0) (omega (arith, c .loop-test .left))
 
 pub read-bundle-spec : {M : Type 1} → statement M
 read-bundle-spec =

@@ -1,9 +1,6 @@
 -- `record::reader::read_left` meets its contract: the head's number, the texts' number, or the record and its places.
 -- Assumes nothing.
-use Rattle.record.proofs.RecordAt.{head-refused, texts-refused, record-read}
-use lib.ListN.{length-drop}
-use Rattle.octets.proofs.Parts.{rest-is}
-use mathlib.Core.Path.{refl}
+use Rattle.record.proofs.RecordAt.{head-refused, texts-refused, record-room, record-read}
 use native.Mathlib.Omega.{arith}
 use borrow.Author.Needs.{needs}
 use Rattle.record.proofs.reader.read_left.Statement.{statement}
@@ -40,43 +37,157 @@ no-record-requires-2 : tie.Need-no-record-requires-2
 no-record-requires-2 c κs = search needs
 
 returns-2 : tie.Need-returns-2
-returns-2 c = rw (c .no-record2 .ensures) (let s = c .before .before .before .before .before .before .before .before .before .before .args .left .now in let g = rw (rest-is s 9, c .before .before .before .before .before .nonce-length .ensures) at (c .before .before .before .read-texts .ensures) in texts-refused s _ (c .before .before .before .before .before .before .before .before .head-refusal .ensures) (c .before .before .before .before .before .before .before .before .before .before .args .at) (c .before .before .before .before .before .before .before .if1 .left) _ g (c .before .if2 .taken))
+returns-2 c =
+    let c₁ = c .before in
+    let c₂ = c₁ .before .before in
+    let c₃ = c₂ .before .before in
+    let c₄ = c₃ .before .before in
+    let c₅ = c₄ .before in
+    let c₆ = c₅ .before .before in
+    rw (c .no-record2 .ensures) (texts-refused _ _ (c₅ .head-refusal .ensures) (c₆ .args .at) (c₄ .if1 .left) _ (c₃ .nonce-length .ensures)
+    _ (c₂ .read-texts .ensures) (c₁ .if2 .taken))
 
 add-note : tie.Need-add-note
-add-note c = let s = c .before .before .before .before .before .before .before .before .before .args .left .now in let h = c .before .before .before .before .before .before .before .head-refusal .ensures .within (c .before .before .before .before .before .before .if1 .left) in let w = rw (rest-is s 9, length-drop 9 s) at (c .before .before .read-texts .ensures .within (c .if2 .left)) in let p = c .before .before .before .before .before .before .before .before .before .pre in search (h, w, p, needs)
+add-note c =
+    let c₁ = c .before .before in
+    let c₂ = c₁ .before .before in
+    let c₃ = c₂ .before .before in
+    let c₄ = c₃ .before in
+    let c₅ = c₄ .before .before in
+    search (
+      record-room _ _ (c₄ .head-refusal .ensures) (c₅ .args .at) (c₃ .if1 .left) _ (c₂ .nonce-length .ensures) _
+          (c₁ .read-texts .ensures) (c .if2 .left),
+      c₅ .pre,
+      needs,
+    )
 
 add-note-2 : tie.Need-add-note-2
-add-note-2 c = let s = c .before .before .before .before .before .before .before .before .before .args .left .now in let h = c .before .before .before .before .before .before .before .head-refusal .ensures .within (c .before .before .before .before .before .before .if1 .left) in let w = rw (rest-is s 9, length-drop 9 s) at (c .before .before .read-texts .ensures .within (c .if2 .left)) in let p = c .before .before .before .before .before .before .before .before .before .pre in search (h, w, p, needs)
+add-note-2 c =
+    let c₁ = c .before .before in
+    let c₂ = c₁ .before .before in
+    let c₃ = c₂ .before .before in
+    let c₄ = c₃ .before in
+    let c₅ = c₄ .before .before in
+    search (
+      record-room _ _ (c₄ .head-refusal .ensures) (c₅ .args .at) (c₃ .if1 .left) _ (c₂ .nonce-length .ensures) _
+          (c₁ .read-texts .ensures) (c .if2 .left),
+      c₅ .pre,
+      needs,
+    )
 
 add-cipher : tie.Need-add-cipher
-add-cipher c = let s = c .before .before .before .before .before .before .before .before .before .before .args .left .now in let h = c .before .before .before .before .before .before .before .before .head-refusal .ensures .within (c .before .before .before .before .before .before .before .if1 .left) in let w = rw (rest-is s 9, length-drop 9 s) at (c .before .before .before .read-texts .ensures .within (c .before .if2 .left)) in let p = c .before .before .before .before .before .before .before .before .before .before .pre in search (h, w, p, needs)
+add-cipher c =
+    let c₁ = c .before in
+    let c₂ = c₁ .before .before in
+    let c₃ = c₂ .before .before in
+    let c₄ = c₃ .before .before in
+    let c₅ = c₄ .before in
+    let c₆ = c₅ .before .before in
+    search (
+      record-room _ _ (c₅ .head-refusal .ensures) (c₆ .args .at) (c₄ .if1 .left) _ (c₃ .nonce-length .ensures) _
+          (c₂ .read-texts .ensures) (c₁ .if2 .left),
+      c₆ .pre,
+      needs,
+    )
 
 add-cipher-2 : tie.Need-add-cipher-2
-add-cipher-2 c = let s = c .before .before .before .before .before .before .before .before .before .before .args .left .now in let h = c .before .before .before .before .before .before .before .before .head-refusal .ensures .within (c .before .before .before .before .before .before .before .if1 .left) in let w = rw (rest-is s 9, length-drop 9 s) at (c .before .before .before .read-texts .ensures .within (c .before .if2 .left)) in let p = c .before .before .before .before .before .before .before .before .before .before .pre in search (h, w, p, needs)
+add-cipher-2 c =
+    let c₁ = c .before in
+    let c₂ = c₁ .before .before in
+    let c₃ = c₂ .before .before in
+    let c₄ = c₃ .before .before in
+    let c₅ = c₄ .before in
+    let c₆ = c₅ .before .before in
+    search (
+      record-room _ _ (c₅ .head-refusal .ensures) (c₆ .args .at) (c₄ .if1 .left) _ (c₃ .nonce-length .ensures) _
+          (c₂ .read-texts .ensures) (c₁ .if2 .left),
+      c₆ .pre,
+      needs,
+    )
 
 add-tag : tie.Need-add-tag
-add-tag c = let s = c .before .before .before .before .before .before .before .before .before .before .before .args .left .now in let h = c .before .before .before .before .before .before .before .before .before .head-refusal .ensures .within (c .before .before .before .before .before .before .before .before .if1 .left) in let w = rw (rest-is s 9, length-drop 9 s) at (c .before .before .before .before .read-texts .ensures .within (c .before .before .if2 .left)) in let p = c .before .before .before .before .before .before .before .before .before .before .before .pre in search (h, w, p, needs)
+add-tag c =
+    let c₁ = c .before .before in
+    let c₂ = c₁ .before .before in
+    let c₃ = c₂ .before .before in
+    let c₄ = c₃ .before .before in
+    let c₅ = c₄ .before in
+    let c₆ = c₅ .before .before in
+    search (
+      record-room _ _ (c₅ .head-refusal .ensures) (c₆ .args .at) (c₄ .if1 .left) _ (c₃ .nonce-length .ensures) _
+          (c₂ .read-texts .ensures) (c₁ .if2 .left),
+      c₆ .pre,
+      needs,
+    )
 
 add-tag-2 : tie.Need-add-tag-2
-add-tag-2 c = let s = c .before .before .before .before .before .before .before .before .before .before .before .args .left .now in let h = c .before .before .before .before .before .before .before .before .before .head-refusal .ensures .within (c .before .before .before .before .before .before .before .before .if1 .left) in let w = rw (rest-is s 9, length-drop 9 s) at (c .before .before .before .before .read-texts .ensures .within (c .before .before .if2 .left)) in let p = c .before .before .before .before .before .before .before .before .before .before .before .pre in search (h, w, p, needs)
+add-tag-2 c =
+    let c₁ = c .before .before in
+    let c₂ = c₁ .before .before in
+    let c₃ = c₂ .before .before in
+    let c₄ = c₃ .before .before in
+    let c₅ = c₄ .before in
+    let c₆ = c₅ .before .before in
+    search (
+      record-room _ _ (c₅ .head-refusal .ensures) (c₆ .args .at) (c₄ .if1 .left) _ (c₃ .nonce-length .ensures) _
+          (c₂ .read-texts .ensures) (c₁ .if2 .left),
+      c₆ .pre,
+      needs,
+    )
 
 pair-requires : tie.Need-pair-requires
-pair-requires c κs = let h = c .before .before .before .before .before .before .before .before .before .head-refusal .ensures .within (c .before .before .before .before .before .before .before .before .if1 .left) in search (h, needs)
+pair-requires c κs =
+    let c₁ = c .before .before .before .before .before .before .before .before in
+    let c₂ = c₁ .before in
+    let h = c₂ .head-refusal .ensures .within (c₁ .if1 .left) in
+    search (h, needs)
 
 cast-t17 : tie.Need-cast-t17
 cast-t17 c = search needs
 
 add-t18 : tie.Need-add-t18
-add-t18 c = let s = c .before .before .before .before .before .before .before .before .before .before .before .before .args .left .now in let h = c .before .before .before .before .before .before .before .before .before .before .head-refusal .ensures .within (c .before .before .before .before .before .before .before .before .before .if1 .left) in let w = rw (rest-is s 9, length-drop 9 s) at (c .before .before .before .before .before .read-texts .ensures .within (c .before .before .before .if2 .left)) in let p = c .before .before .before .before .before .before .before .before .before .before .before .before .pre in search (h, w, p, needs)
+add-t18 c =
+    let c₁ = c .before .before .before in
+    let c₂ = c₁ .before .before in
+    let c₃ = c₂ .before .before in
+    let c₄ = c₃ .before .before in
+    let c₅ = c₄ .before in
+    let c₆ = c₅ .before .before in
+    search (
+      record-room _ _ (c₅ .head-refusal .ensures) (c₆ .args .at) (c₄ .if1 .left) _ (c₃ .nonce-length .ensures) _
+          (c₂ .read-texts .ensures) (c₁ .if2 .left),
+      c₆ .pre,
+      needs,
+    )
 
 add-t19 : tie.Need-add-t19
-add-t19 c = let s = c .before .before .before .before .before .before .before .before .before .before .before .before .args .left .now in let h = c .before .before .before .before .before .before .before .before .before .before .head-refusal .ensures .within (c .before .before .before .before .before .before .before .before .before .if1 .left) in let w = rw (rest-is s 9, length-drop 9 s) at (c .before .before .before .before .before .read-texts .ensures .within (c .before .before .before .if2 .left)) in let p = c .before .before .before .before .before .before .before .before .before .before .before .before .pre in search (h, w, p, needs)
+add-t19 c =
+    let c₁ = c .before .before .before in
+    let c₂ = c₁ .before .before in
+    let c₃ = c₂ .before .before in
+    let c₄ = c₃ .before .before in
+    let c₅ = c₄ .before in
+    let c₆ = c₅ .before .before in
+    search (
+      record-room _ _ (c₅ .head-refusal .ensures) (c₆ .args .at) (c₄ .if1 .left) _ (c₃ .nonce-length .ensures) _
+          (c₂ .read-texts .ensures) (c₁ .if2 .left),
+      c₆ .pre,
+      needs,
+    )
 
 sub-t20 : tie.Need-sub-t20
 sub-t20 c = search needs
 
 returns-3 : tie.Need-returns-3
-returns-3 c = let s = c .before .before .before .before .before .before .before .before .before .before .before .before .args .left .now in let g = rw (rest-is s 9, c .before .before .before .before .before .before .before .nonce-length .ensures) at (c .before .before .before .before .before .read-texts .ensures) in record-read s _ (c .before .before .before .before .before .before .before .before .before .before .head-refusal .ensures) (c .before .before .before .before .before .before .before .before .before .before .before .before .args .at) (c .before .before .before .before .before .before .before .before .before .if1 .left) _ g (c .before .before .before .if2 .left) _ _ _ _ _ _ _ (c .before .before .before .before .before .before .before .nonce-length .ensures) (c .pair .ensures .0) (omega arith) (omega arith) (omega arith) (omega arith) (omega arith)
+returns-3 c =
+    let c₁ = c .before .before .before in
+    let c₂ = c₁ .before .before in
+    let c₃ = c₂ .before .before in
+    let c₄ = c₃ .before .before in
+    let c₅ = c₄ .before in
+    let c₆ = c₅ .before .before in
+    record-read _ _ (c₅ .head-refusal .ensures) (c₆ .args .at) (c₄ .if1 .left) _ (c₃ .nonce-length .ensures) _ (c₂ .read-texts .ensures)
+    (c₁ .if2 .left) _ _ _ _ _ _ (c .pair .ensures .0) (omega arith) (omega arith) (omega arith) (omega arith) (omega arith)
 
 pub read-left-spec : {M : Type 1} → statement M
 read-left-spec =

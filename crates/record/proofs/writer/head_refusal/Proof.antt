@@ -12,13 +12,24 @@ range-refusal-requires : tie.Need-range-refusal-requires
 range-refusal-requires c κs = search needs
 
 returns : tie.Need-returns
-returns c = suite-number (c .before .before .before .args .suite) (c .before .before .before .args .row) (search needs) _ (rw (c .before .before .wide .ensures .0) at (c .before .range-refusal .ensures)) (c .if1 .taken)
+returns c =
+    let c₁ = c .before in
+    let c₂ = c₁ .before in
+    let c₃ = c₂ .before in
+    suite-number (c₃ .args .suite) (c₃ .args .row) (search needs) _ (rw (c₂ .wide .ensures .0) at (c₁ .range-refusal .ensures))
+    (c .if1 .taken)
 
 range-refusal-requires-2 : tie.Need-range-refusal-requires-2
 range-refusal-requires-2 c κs = search needs
 
 returns-2 : tie.Need-returns-2
-returns-2 c = row-then (c .before .before .before .before .args .suite) (c .before .before .before .before .args .row) (search needs) _ _ (rw (c .before .before .before .wide .ensures .0) at (c .before .before .range-refusal .ensures)) (c .before .if1 .left) (c .range-refusal2 .ensures)
+returns-2 c =
+    let c₁ = c .before in
+    let c₂ = c₁ .before in
+    let c₃ = c₂ .before in
+    let c₄ = c₃ .before in
+    row-then (c₄ .args .suite) (c₄ .args .row) (search needs) _ _ (rw (c₃ .wide .ensures .0) at (c₂ .range-refusal .ensures))
+    (c₁ .if1 .left) (c .range-refusal2 .ensures)
 
 pub head-refusal-spec : {M : Type 1} → statement M
 head-refusal-spec =

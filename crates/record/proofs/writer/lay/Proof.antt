@@ -31,13 +31,37 @@ put-field-requires-5 : tie.Need-put-field-requires-5
 put-field-requires-5 c κs = search needs
 
 put-field-requires-6 : tie.Need-put-field-requires-6
-put-field-requires-6 c κs = let p = c .before .before .before .before .before .before .before .before .before .before .before .before .before .before .before .before .before .before .before .before .before .before .before .before .before .before .before .before .before .pre in search (p, needs)
+put-field-requires-6 c κs =
+    let p = c .before .before .before .before .before .before .before .before .before .before .before .before .before .before .before
+    .before .before .before .before .before .before .before .before .before .before .before .before .before .before .pre in
+    search (p, needs)
 
 same-length : tie.Need-same-length
 same-length c = search needs
 
 returns : tie.Need-returns
-returns c = let a = c .before .before .before .before .before .before .before .before .before .before .before .before .before .before .before .before .before .before .before .before .before .before .before .before .before .before .before .before .before .before .before .before .args in six-laid (record { suite = a .suite; row = a .row; nonce = a .nonce .now; note = a .note .now; cipher = a .cipher .now; tag = a .tag .now }) (a .destination .now) _ _ _ _ _ _ _ _ _ _ _ _ (omega (arith, c .before .before .before .before .before .before .before .before .before .before .before .before .before .before .before .before .before .before .before .before .before .before .before .before .before .before .before .before .before .before .before .before .pre .0)) (c .before .before .before .before .before .before .before .before .before .before .before .before .before .before .before .before .before .before .before .before .before .before .before .before .before .before .row-bytes .ensures) (c .before .before .before .before .before .before .before .before .before .before .before .before .before .before .before .before .before .before .before .before .before .before .before .put-field .ensures .1) (c .before .before .before .before .before .before .before .before .before .before .before .before .before .before .before .before .before .before .before .before .before .before .before .put-field .ensures .0) (c .before .before .before .before .before .before .before .before .before .before .before .before .before .before .before .before .before .before .put-field2 .ensures .1) (c .before .before .before .before .before .before .before .before .before .before .before .before .before .before .before .before .before .before .put-field2 .ensures .0) (c .before .before .before .before .before .before .before .before .before .before .before .before .before .before .put-field3 .ensures .1) (c .before .before .before .before .before .before .before .before .before .before .before .before .before .before .put-field3 .ensures .0) (c .before .before .before .before .before .before .before .before .before .before .put-field4 .ensures .1) (c .before .before .before .before .before .before .before .before .before .before .put-field4 .ensures .0) (c .before .before .before .before .before .before .put-field5 .ensures .1) (c .before .before .before .before .before .before .put-field5 .ensures .0) (c .before .before .put-field6 .ensures .1)
+returns c =
+    let c₁ = c .before .before in
+    let c₂ = c₁ .before .before .before .before in
+    let c₃ = c₂ .before .before .before .before in
+    let c₄ = c₃ .before .before .before .before in
+    let c₅ = c₄ .before .before .before .before in
+    let c₆ = c₅ .before .before .before .before .before in
+    let c₇ = c₆ .before .before .before in
+    let c₈ = c₇ .before .before .before .before .before .before in
+    let a = c₈ .args in
+    six-laid (record {
+      suite = a .suite;
+      row = a .row;
+      nonce = a .nonce .now;
+      note = a .note .now;
+      cipher = a .cipher .now;
+      tag = a .tag
+          .now;
+    }) (a .destination .now) _ _ _ _ _ _ _ _ _ _ _ _ (omega (arith, c₈ .pre .0)) (c₇ .row-bytes .ensures)
+    (c₆ .put-field .ensures .1) (c₆ .put-field .ensures .0) (c₅ .put-field2 .ensures .1) (c₅ .put-field2 .ensures .0)
+    (c₄ .put-field3 .ensures .1) (c₄ .put-field3 .ensures .0) (c₃ .put-field4 .ensures .1) (c₃ .put-field4 .ensures .0)
+    (c₂ .put-field5 .ensures .1) (c₂ .put-field5 .ensures .0) (c₁ .put-field6 .ensures .1)
 
 pub lay-spec : {M : Type 1} → statement M
 lay-spec =

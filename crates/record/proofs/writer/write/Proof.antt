@@ -18,7 +18,22 @@ refused-requires c κs = search needs
 
 returns : tie.Need-returns
 unfolding writing
-returns c = let a = c .before .before .before .before .before .before .before .before .args in let x : Content = record { suite = a .suite; row = a .row; nonce = a .nonce .now; note = a .note .now; cipher = a .cipher .now; tag = a .tag .now } in rw (c .refused .ensures) (refused-out _ (written x) _ _ (head-refuses x _ (c .before .before .head-refusal .ensures) (c .before .if1 .taken)) (c .before .if1 .taken))
+returns c =
+    let c₁ = c .before in
+    let c₂ = c₁ .before in
+    let c₃ = c₂ .before .before .before .before .before .before in
+    let a = c₃ .args in
+    let x : Content = record {
+      suite = a .suite;
+      row = a .row;
+      nonce = a .nonce .now;
+      note = a .note .now;
+      cipher = a .cipher .now;
+      tag = a
+          .tag .now;
+    } in
+    rw (c .refused .ensures) (refused-out _ (written x) _ _ (head-refuses x _ (c₂ .head-refusal .ensures) (c₁ .if1 .taken))
+    (c₁ .if1 .taken))
 
 nonce-length-requires : tie.Need-nonce-length-requires
 nonce-length-requires c κs = search needs
@@ -31,33 +46,116 @@ refused-requires-2 c κs = search needs
 
 returns-2 : tie.Need-returns-2
 unfolding writing
-returns-2 c = let a = c .before .before .before .before .before .before .before .before .before .before .before .args in let x : Content = record { suite = a .suite; row = a .row; nonce = a .nonce .now; note = a .note .now; cipher = a .cipher .now; tag = a .tag .now } in rw (c .refused2 .ensures) (refused-out _ (written x) _ _ (texts-refuse x _ (c .before .before .before .before .before .head-refusal .ensures) (c .before .before .before .before .if1 .left) _ (rw (c .before .before .before .nonce-length .ensures) at (c .before .before .texts-refusal .ensures))) (c .before .if2 .taken))
+returns-2 c =
+    let c₁ = c .before in
+    let c₂ = c₁ .before in
+    let c₃ = c₂ .before in
+    let c₄ = c₃ .before in
+    let c₅ = c₄ .before in
+    let c₆ = c₅ .before .before .before .before .before .before in
+    let a = c₆ .args in
+    let x : Content = record {
+      suite = a .suite;
+      row = a .row;
+      nonce = a .nonce .now;
+      note = a .note .now;
+      cipher = a .cipher .now;
+      tag = a
+          .tag .now;
+    } in
+    rw (c .refused2 .ensures) (refused-out _ (written x) _ _ (texts-refuse x _ (c₅ .head-refusal .ensures) (c₄ .if1 .left) _
+    (rw (c₃ .nonce-length .ensures) at (c₂ .texts-refusal .ensures))) (c₁ .if2 .taken))
 
 add-length : tie.Need-add-length
 add-length c = search needs
 
 add-length-2 : tie.Need-add-length-2
-add-length-2 c = let f = fit _ _ _ _ _ (sym (c .before .texts-refusal .ensures) ∙ c .if2 .left) in let n = f .of-nonce in let h = f .of-note in search (n, h, needs)
+add-length-2 c =
+    let f = fit _ _ _ _ _ (sym (c .before .texts-refusal .ensures) ∙ c .if2 .left) in
+    let n = f .of-nonce in
+    let h = f .of-note in
+    search (n, h, needs)
 
 add-length-3 : tie.Need-add-length-3
-add-length-3 c = let f = fit _ _ _ _ _ (sym (c .before .texts-refusal .ensures) ∙ c .if2 .left) in let n = f .of-note in let h = f .of-cipher in search (n, h, needs)
+add-length-3 c =
+    let f = fit _ _ _ _ _ (sym (c .before .texts-refusal .ensures) ∙ c .if2 .left) in
+    let n = f .of-note in
+    let h = f .of-cipher in
+    search (n, h, needs)
 
 refused-requires-3 : tie.Need-refused-requires-3
 refused-requires-3 c κs = search needs
 
 returns-3 : tie.Need-returns-3
 unfolding writing
-returns-3 c = let a = c .before .before .before .before .before .before .before .before .before .before .before .before .args in let x : Content = record { suite = a .suite; row = a .row; nonce = a .nonce .now; note = a .note .now; cipher = a .cipher .now; tag = a .tag .now } in let z = sym (texts-refuse x _ (c .before .before .before .before .before .before .head-refusal .ensures) (c .before .before .before .before .before .if1 .left) _ (rw (c .before .before .before .before .nonce-length .ensures) at (c .before .before .before .texts-refusal .ensures))) ∙ c .before .before .if2 .left in let f = fit _ _ _ _ _ (sym (c .before .before .before .texts-refusal .ensures) ∙ c .before .before .if2 .left) in let w = written-length x in rw (c .refused3 .ensures) (short-out _ (written x) _ z (omega (arith, w, f .of-tag, c .before .if3 .taken)))
+returns-3 c =
+    let c₁ = c .before in
+    let c₂ = c₁ .before in
+    let c₃ = c₂ .before in
+    let c₄ = c₃ .before in
+    let c₅ = c₄ .before in
+    let c₆ = c₅ .before in
+    let c₇ = c₆ .before .before .before .before .before .before in
+    let a = c₇ .args in
+    let x : Content = record {
+      suite = a .suite;
+      row = a .row;
+      nonce = a .nonce .now;
+      note = a .note .now;
+      cipher = a .cipher .now;
+      tag = a
+          .tag .now;
+    } in
+    let z = sym (texts-refuse x _ (c₆ .head-refusal .ensures) (c₅ .if1 .left) _
+    (rw (c₄ .nonce-length .ensures) at (c₃ .texts-refusal .ensures))) ∙ c₂ .if2 .left in
+    let f = fit _ _ _ _ _ (sym (c₃ .texts-refusal .ensures) ∙ c₂ .if2 .left) in
+    let w = written-length x in
+    rw (c .refused3 .ensures) (short-out _ (written x) _ z (omega (arith, w, f .of-tag, c₁ .if3 .taken)))
 
 lay-requires : tie.Need-lay-requires
-lay-requires c κs = let f = fit _ _ _ _ _ (sym (c .before .before .before .texts-refusal .ensures) ∙ c .before .before .if2 .left) in let n = f .of-nonce in let h = f .of-note in let k = f .of-cipher in let t = f .of-tag in let m = nonce-short (c .before .before .before .before .before .before .before .before .before .before .before .before .args .suite) in let q = c .before .before .before .before .nonce-length .ensures in search (n, h, k, t, m, q, needs)
+lay-requires c κs =
+    let c₁ = c .before .before in
+    let c₂ = c₁ .before in
+    let c₃ = c₂ .before in
+    let c₄ = c₃ .before .before .before .before .before .before .before .before in
+    let f = fit _ _ _ _ _ (sym (c₂ .texts-refusal .ensures) ∙ c₁ .if2 .left) in
+    let n = f .of-nonce in
+    let h = f .of-note in
+    let k = f .of-cipher in
+    let t = f .of-tag in
+    let m = nonce-short (c₄ .args .suite) in
+    let q = c₃ .nonce-length .ensures in
+    search (n, h, k, t, m, q, needs)
 
 same-length : tie.Need-same-length
 same-length c = search needs
 
 returns-4 : tie.Need-returns-4
 unfolding writing
-returns-4 c = let a = c .before .before .before .before .before .before .before .before .before .before .before .before .before .before .before .args in let x : Content = record { suite = a .suite; row = a .row; nonce = a .nonce .now; note = a .note .now; cipher = a .cipher .now; tag = a .tag .now } in let z = sym (texts-refuse x _ (c .before .before .before .before .before .before .before .before .before .head-refusal .ensures) (c .before .before .before .before .before .before .before .before .if1 .left) _ (rw (c .before .before .before .before .before .before .before .nonce-length .ensures) at (c .before .before .before .before .before .before .texts-refusal .ensures))) ∙ c .before .before .before .before .before .if2 .left in let f = fit _ _ _ _ _ (sym (c .before .before .before .before .before .before .texts-refusal .ensures) ∙ c .before .before .before .before .before .if2 .left) in let w = written-length x in done-out _ (written x) _ z _ _ (omega (arith, w, f .of-tag)) (c .before .before .lay .ensures) (omega (arith, w, f .of-tag, c .before .before .before .before .if3 .left))
+returns-4 c =
+    let c₁ = c .before .before in
+    let c₂ = c₁ .before .before in
+    let c₃ = c₂ .before in
+    let c₄ = c₃ .before in
+    let c₅ = c₄ .before in
+    let c₆ = c₅ .before in
+    let c₇ = c₆ .before in
+    let c₈ = c₇ .before .before .before .before .before .before in
+    let a = c₈ .args in
+    let x : Content = record {
+      suite = a .suite;
+      row = a .row;
+      nonce = a .nonce .now;
+      note = a .note .now;
+      cipher = a .cipher .now;
+      tag = a
+          .tag .now;
+    } in
+    let z = sym (texts-refuse x _ (c₇ .head-refusal .ensures) (c₆ .if1 .left) _
+    (rw (c₅ .nonce-length .ensures) at (c₄ .texts-refusal .ensures))) ∙ c₃ .if2 .left in
+    let f = fit _ _ _ _ _ (sym (c₄ .texts-refusal .ensures) ∙ c₃ .if2 .left) in
+    let w = written-length x in
+    done-out _ (written x) _ z _ _ (omega (arith, w, f .of-tag)) (c₁ .lay .ensures) (omega (arith, w, f .of-tag, c₂ .if3 .left))
 
 pub write-spec : {M : Type 1} → statement M
 write-spec =
