@@ -232,9 +232,9 @@ abbrev pub NotZero : {A : Type 0} → Read A → Type 0
 NotZero (refused n) = n ≡ 0 → ⊥
 NotZero (got value left) = Unit {0}
 
-pick-not-zero : {A : Type 0} (b : Bool) (x : Read A) (n : ℕ) → NotZero x → NotZero (pick b x (refused (suc n)))
-pick-not-zero true x n h = h
-pick-not-zero false x n h = suc-ne-zero n
+pub pick-not-zero : {A : Type 0} (b : Bool) (x y : Read A) → NotZero x → NotZero y → NotZero (pick b x y)
+pick-not-zero true x y h k = h
+pick-not-zero false x y h k = k
 
 pub then-not-zero : {A B : Type 0} (x : Read A) (f : A → List ℕ → Read B) → NotZero x → ((value : A) (left : List ℕ) → NotZero (f value left))
     → NotZero (andThen x f)
@@ -244,10 +244,14 @@ then-not-zero (got value left) f h k = k value left
 field-not-zero : (r : Rule) (s : List ℕ) → NotZero (takeField r s)
 unfolding takeField
 field-not-zero r s =
-    pick-not-zero (leb 3 (length s)) _ 9
-    (pick-not-zero (eqb (getD s 0 0) (r .tag)) _ 10
-    (pick-not-zero (allows r (told s)) _ 11
-    (pick-not-zero (leb (told s) (length s - 3)) _ 9 (pick-not-zero (r .inRange (take (told s) (drop 3 s))) _ 12 tt))))
+    pick-not-zero (leb 3 (length s)) _ (refused 10)
+    (pick-not-zero (eqb (getD s 0 0) (r .tag)) _ (refused 11)
+    (pick-not-zero (allows r (told s)) _ (refused 12)
+    (pick-not-zero (leb (told s) (length s - 3)) _ (refused 10)
+    (pick-not-zero (r .inRange (take (told s) (drop 3 s))) (got _ _) (refused 13) tt (suc-ne-zero 12)) (suc-ne-zero 9))
+    (suc-ne-zero 11))
+    (suc-ne-zero 10))
+    (suc-ne-zero 9)
 
 pub fields-not-zero : (rules : List Rule) (s : List ℕ) → NotZero (takeFields rules s)
 unfolding takeFields

@@ -19,7 +19,13 @@ use Rattle.fields.proofs.Ranges.{both}
 module _ (tag least greatest : ℕ) (s : List ℕ) where
   no-field : (n : ℕ) → (n ≡ 0 → ⊥) → takeField (plain tag least greatest) s ≡ refused n
       → FieldRead tag least greatest s (record { number = n; bytes = 0 })
-  no-field n h e = record { given = e ∙ sym (answered-refused n _ _ h); within = λ z. absurd (h z); allowed = λ z. absurd (h z) }
+  no-field n h e = record {
+    given = e ∙ sym (answered-refused n _ _ h);
+    within = λ z. absurd (h z);
+    allowed = λ z. absurd (h z);
+    none = λ _.
+        refl;
+  }
 
   pub few : length s < 3 → FieldRead tag least greatest s (record { number = 10; bytes = 0 })
   unfolding takeField
@@ -70,6 +76,7 @@ module _ (tag least greatest : ℕ) (s : List ℕ) where
               given = tests true true true e f g .reading;
               within = λ _. omega (arith, h, w);
               allowed = λ _. (leb-true least (told s) (l .0), leb-true (told s) greatest (l .1));
+              none = λ k. absurd (k refl);
             }
         by true true false e f g = absurd (suc-ne-zero 9 (sym (tests true true false e f g .number) ∙ z))
         by true false m e f g = absurd (suc-ne-zero 11 (sym (tests true false m e f g .number) ∙ z))

@@ -19,8 +19,8 @@ module _ (least greatest value number : ℕ) where
   pub inside : least ≤ value → value ≤ greatest → 0 ≡ pick (between least greatest value) 0 number
   inside l h = simp (le-leb _ _ l, le-leb _ _ h)
 
-pub tag-other : (found tag : ℕ) → (found ≡ tag → ⊥) → _≡_ {A = ℕ} 11 (pick (eqb found tag) 0 11)
-tag-other found tag h = simp (ne-eqb _ _ h)
+pub tag-differs : (found tag : ℕ) → (found ≡ tag → ⊥) → _≡_ {A = ℕ} 11 (pick (eqb found tag) 0 11)
+tag-differs found tag h = simp (ne-eqb _ _ h)
 
 pub tag-same : (found tag : ℕ) → found ≡ tag → _≡_ {A = ℕ} 0 (pick (eqb found tag) 0 11)
 tag-same found tag e = simp (eq-eqb _ _ e)

@@ -16,11 +16,6 @@ module _ {A : Type 0} (number : ℕ) (value : A) (left : List ℕ) where
   pub answered-refused : (number ≡ 0 → ⊥) → answered number value left ≡ refused number
   answered-refused h = simp (ne-eqb _ _ h)
 
-pub then-assoc : {A B C : Type 0} (x : Read A) (f : A → List ℕ → Read B) (g : B → List ℕ → Read C)
-    → andThen (andThen x f) g ≡ andThen x (λ value left. andThen (f value left) g)
-then-assoc (refused n) f g = refl
-then-assoc (got value left) f g = refl
-
 -- a test in front of a reading stays in front
 pub then-pick : {A B : Type 0} (b : Bool) (x : Read A) (y : Read B) (n : ℕ) (f : A → List ℕ → Read B)
     → andThen x f ≡ y → andThen (pick b x (refused n)) f ≡ pick b y (refused n)
@@ -41,7 +36,7 @@ pub fields-end : (s : List ℕ) → takeFields [] s ≡ got [] s
 unfolding takeFields
 fields-end s = refl
 
-then-got : {A : Type 0} (x : Read A) → andThen x (λ value left. got value left) ≡ x
+pub then-got : {A : Type 0} (x : Read A) → andThen x (λ value left. got value left) ≡ x
 then-got (refused n) = refl
 then-got (got value left) = refl
 

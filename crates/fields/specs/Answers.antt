@@ -22,6 +22,7 @@ pub record FieldRead (tag least greatest : ℕ) (s : List ℕ) (p : Part) : Type
   pub given : takeField (plain tag least greatest) s ≡ answered (p .number) (part s 3 (p .bytes)) (drop (3 + p .bytes) s)
   pub within : p .number ≡ 0 → 3 + p .bytes ≤ length s
   pub allowed : p .number ≡ 0 → (least ≤ p .bytes) × (p .bytes ≤ greatest)
+  pub none : (p .number ≡ 0 → ⊥) → p .bytes ≡ 0
 
 -- bytes laid at a place, all others as they stood
 abbrev pub laidAt : ℕ → List ℕ → List ℕ → List ℕ

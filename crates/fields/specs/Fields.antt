@@ -67,6 +67,7 @@ takeFields (r ∷ rules) s = andThen (takeField r s) (λ body left. andThen (tak
 unfoldable pub field : ℕ → List ℕ → List ℕ
 field tag body = tag ∷ (bigEndian 2 (length body) ++ body)
 
+-- as many bodies as rules are meant: too few are written as far as they go, and refused with 12
 unfoldable pub fields : List Rule → List (List ℕ) → List ℕ
 fields (r ∷ rules) (body ∷ bodies) = field (r .tag) body ++ fields rules bodies
 fields (r ∷ rules) [] = []

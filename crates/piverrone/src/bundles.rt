@@ -5,8 +5,6 @@ use crate::words;
 use record::reader;
 use record::reader::Record;
 
-const MOST_RECORDS: usize = 64;
-
 // One byte more than the longest bundle, 64 records of 5,172 bytes. What lies after it can't change the answer: each of the first 64 records
 // ends within 331,008 bytes, and any byte after record 64 is refused alike.
 const SPACE: usize = 331009;
@@ -36,7 +34,7 @@ fn tell_records(bytes: &[u8], records: usize) {
 // Tells the first record that can't be read, or what comes after the last one allowed.
 fn tell_refusal(bytes: &[u8], number: u8) {
     let mut at = 0;
-    for i in 0..MOST_RECORDS {
+    for i in 0..reader::MOST_RECORDS {
         let found = reader::read(bytes, at);
         if found.number != 0 {
             words::refused_at(number, i + 1, at);
@@ -44,7 +42,7 @@ fn tell_refusal(bytes: &[u8], number: u8) {
         }
         at = at + found.length;
     }
-    words::refused_at(number, MOST_RECORDS + 1, at);
+    words::refused_at(number, reader::MOST_RECORDS + 1, at);
 }
 
 fn answer(bytes: &[u8]) {

@@ -9,17 +9,18 @@ use native.Mathlib.Nat.{suc-ne-zero}
 use native.Mathlib.Omega.{arith}
 use lib.Dec.{leb}
 use lib.ListN.{length, drop, getD, replicate, length-replicate, drop-of-length-le}
-use lib.Seq.{drop-drop}
+use lib.Seq.{drop-at, drop-drop}
 use borrow.Author.Tests.{eq-eqb, ne-eqb, le-leb, lt-leb, leb-true}
 use Rattle.octets.specs.Octets.{pick, bigEndian}
 use Rattle.suites.specs.Suites.{nonceLength}
 use Rattle.fields.specs.Fields.{Rule, between, told, Read, refused, got, takeField, takeFields, fields, fieldsRefusal}
+use Rattle.fields.proofs.Ranges.{inside}
 use Rattle.fields.proofs.Readings.{stop, fields-join}
 use Rattle.fields.proofs.Accepting.{Short, taken-all}
 use Rattle.record.specs.declared.reader.Record.{Record}
 use Rattle.record.specs.declared.reader.Bundle.{Bundle}
 use Rattle.record.specs.HouseRecord.{rowRule, noteRule, textRules, rules, Content, bodies, written, rowData, Writing, dataWriting, takeRecord, takeRecords, foundAt, reading, counted, bundleReading}
-use Rattle.record.proofs.Bundles.{was-refused}
+use Rattle.record.proofs.Bundles.{was-refused, was-read}
 use Rattle.record.proofs.Sizes.{written-length}
 use Rattle.record.proofs.WholeRecord.{Good, rules-short, nonce-short}
 use Rattle.record.proofs.Writings.{suite-number, row-then, head-refuses, texts-refuse, nonce-other, note-long, cipher-long, tag-other, texts-fit}
@@ -44,7 +45,7 @@ use Rattle.promises.specs.Records.{
   One-outcome-of-records,
 }
 use Rattle.promises.proofs.Promises.{round-trip}
-use Rattle.promises.proofs.RecordViews.{Outcome, laid, short, bad, outcome, write-outcome, good-takes, takes-good, in-bounds, seen}
+use Rattle.promises.proofs.RecordViews.{Outcome, laid, short, bad, outcome, write-outcome, good-takes, takes-good, in-bounds}
 use Rattle.promises.proofs.RecordsBothWays.{reads-what-was-written}
 
 -- ---- what a refusal leaves
@@ -90,13 +91,11 @@ unfolding reading takeRecord takeFields takeField
 no-place-past-the-end s at r h a = a ∙ rw (drop-of-length-le s h)
 
 pub places-lie-within : Places-lie-within
-places-lie-within s at r b a z =
-    let f = seen s at r b a z in
-    let g = in-bounds (f .content) (f .good) .texts in
-    let n = nonce-short (f .content .suite) in
+places-lie-within s at r a z =
+    let f = was-read s at r a z in
+    let g = f .lengths in
     let w = written-length (f .content) in
-    by (f .content) (f .is) (g .of-tag)
-    (omega (arith, w, n, g .of-nonce, g .of-note, g .of-cipher, g .of-tag)) (f .within)
+    by (f .content) (f .is) (g .of-tag) (omega (arith, w, g .of-nonce, g .of-note, g .of-cipher, g .of-tag)) (f .within)
   where
     by : (c : Content) → r ≡ foundAt at c → length (c .tag) ≡ 16 → length (written c) ≤ 5172 → r .length ≤ length s - at → Within s at r
     by c e t l w =
@@ -150,13 +149,13 @@ pub read-field-by-field : Read-field-by-field
 unfolding reading takeRecord
 read-field-by-field = (
   checks-in-order,
-  λ before others r bodies left n x e z l f a.
+  λ before others r bodies front left n x e z l f a.
       let s = fields before bodies ++ left in
       let k = short-before before (r ∷ others) (subst Short e (rules-short (getD s 3 0))) in
       let g : takeFields (rules (getD s 3 0)) s ≡ refused n =
       rw e
       (fields-join before (r ∷ others) s ∙ rw (taken-all before bodies left k z l, stop r others left n f)) in
-      a ∙ rw g,
+      a ∙ rw (drop-at front s (length front) refl, g),
 )
 
 -- ---- the writer's numbers
@@ -169,9 +168,6 @@ out-of greatest n h = by (leb 1 n) (leb n greatest) refl refl
     by true true p q = absurd (h (leb-true 1 n p, leb-true n greatest q))
     by true false p q = refl
     by false b p q = refl
-
-in-of : (greatest n : ℕ) → InRange greatest n → _≡_ {A = ℕ} 0 (pick (between 1 greatest n) 0 13)
-in-of greatest n h = simp (le-leb 1 n (h .0), le-leb n greatest (h .1))
 
 module _ (c : Content) (d : List ℕ) (w : Writing) (fits : c .row < 65536)
     (o : Outcome (fieldsRefusal (rules (c .suite)) (bodies c)) (written c) d w) where
@@ -187,14 +183,15 @@ module _ (c : Content) (d : List ℕ) (w : Writing) (fits : c .row < 65536)
   module _ (s : InRange 4 (c .suite)) where
     row-wrong : (InRange 20 (c .row) → ⊥) → w .answer .number ≡ 13
     row-wrong h =
-        let e = row-then (c .suite) (c .row) fits 0 13 (in-of 4 (c .suite) s) refl (out-of 20 (c .row) h) in
+        let e = row-then (c .suite) (c .row) fits 0 13 (inside 1 4 (c .suite) 13 (s .0) (s .1)) refl (out-of 20 (c .row) h) in
         numbered 13 (head-refuses c 13 e (suc-ne-zero 12)) (suc-ne-zero 12)
 
     module _ (r : InRange 20 (c .row)) where
       of-texts : (m : ℕ) → m ≡ fieldsRefusal (textRules (nonceLength (c .suite))) (c .nonce ∷ c .note ∷ c .cipher ∷ c .tag ∷ [])
           → m ≡ fieldsRefusal (rules (c .suite)) (bodies c)
       of-texts m e =
-          texts-refuse c 0 (row-then (c .suite) (c .row) fits 0 0 (in-of 4 (c .suite) s) refl (in-of 20 (c .row) r)) refl m e
+          texts-refuse c 0 (row-then (c .suite) (c .row) fits 0 0 (inside 1 4 (c .suite) 13 (s .0) (s .1)) refl
+          (inside 1 20 (c .row) 13 (r .0) (r .1))) refl m e
 
       twelve : _≡_ {A = ℕ} 12 (fieldsRefusal (textRules (nonceLength (c .suite))) (c .nonce ∷ c .note ∷ c .cipher ∷ c .tag ∷ []))
           → w .answer .number ≡ 12

@@ -12,10 +12,12 @@ use lib.Seq.{take-at, drop-at, getD-drop}
 use borrow.Author.Tests.{eqb-true, ne-eqb}
 use Rattle.octets.specs.Octets.{Bytes, pick, bigEndian}
 use Rattle.fields.specs.Fields.{Read, refused, got, andThen, field, fields, fieldsRefusal}
-use Rattle.fields.proofs.Accepting.{through, got-value, refused-not-got, rest-bytes, NotZero, then-not-zero}
+use Rattle.fields.proofs.Accepting.{through, got-value, refused-not-got, rest-bytes, NotZero, pick-not-zero, then-not-zero}
 use Rattle.record.specs.declared.reader.Record.{Record}
 use Rattle.record.specs.declared.reader.Bundle.{Bundle}
 use Rattle.record.specs.HouseRecord.{rules, Content, bodies, written, bundled, Writing, takeRecord, takeRecords, counted, bundleReading, WriteAllows}
+use Rattle.fields.proofs.Readings.{then-got}
+use Rattle.record.proofs.Bundles.{was-refused, no-bytes}
 use Rattle.record.proofs.Sizes.{written-length}
 use Rattle.record.proofs.WholeRecord.{Good, read-back, accepted-record, record-not-zero}
 use Rattle.promises.specs.Records.{
@@ -34,6 +36,7 @@ use Rattle.promises.specs.Records.{
   Written-is-the-bundle-that-is-accepted,
   No-two-ways-for-a-bundle,
   Bytes-after-record-64,
+  Bundle-refused-by-its-record,
 }
 use Rattle.promises.proofs.RecordViews.{Outcome, laid, short, bad, write-outcome, good-takes, takes-good, done-good, lies, reads-written, in-bounds, seen}
 
@@ -110,11 +113,7 @@ pub bundle-then : (contents : List Content) (more : ℕ) (rest : List ℕ) → A
     → takeRecords (length contents + more) (bundled contents ++ rest)
     ≡ andThen (takeRecords more rest) (λ others after. got (contents ++ others) after)
 unfolding takeRecords bundled
-bundle-then [] more rest t = rw (zero-add more) (sym (then-same (takeRecords more rest)))
-  where
-    then-same : (x : Read (List Content)) → andThen x (λ others after. got others after) ≡ x
-    then-same (refused n) = refl
-    then-same (got others after) = refl
+bundle-then [] more rest t = rw (zero-add more) (sym (then-got (takeRecords more rest)))
 bundle-then (c ∷ contents) more rest t =
     let n : length (c ∷ contents) + more ≡ suc (length contents + more) = omega arith in
     rw (
@@ -133,18 +132,13 @@ bundle-then (c ∷ contents) more rest t =
     again (refused n) = refl
     again (got others after) = refl
 
-no-more : (more : ℕ) → takeRecords more [] ≡ got [] []
-unfolding takeRecords
-no-more zero = refl
-no-more (suc more) = refl
-
 -- with so many records allowed at least
 pub bundle-back : (contents : List Content) (allowed : ℕ) → AllTaken contents → length contents ≤ allowed
     → takeRecords allowed (bundled contents) ≡ got contents []
 bundle-back contents allowed t h =
     let n : length contents + (allowed - length contents) ≡ allowed = omega arith in
     let e = bundle-then contents (allowed - length contents) [] t in
-    (rw (n, append-nil (bundled contents), no-more (allowed - length contents)) at e) ∙ ap (λ (l : List Content). got l [])
+    (rw (n, append-nil (bundled contents), no-bytes (allowed - length contents)) at e) ∙ ap (λ (l : List Content). got l [])
     (append-nil contents)
 
 bundled-join : (before after : List Content) → bundled (before ++ after) ≡ bundled before ++ bundled after
@@ -165,8 +159,11 @@ reads-the-bundle-that-was-written contents b t h e = (
       let g = takes-good c (middle before c after (subst AllTaken q t)) in
       let l : drop (length (bundled before)) (bundled contents) ≡ written c ++ bundled after =
       rw (q, bundled-join before (c ∷ after)) (drop-at (bundled before) (written c ++ bundled after) (length (bundled before)) refl) in
-      let i = reads-written (bundled contents) (length (bundled before)) c (bundled after) r g l a in
-      lies (bundled contents) (length (bundled before)) c (bundled after) r i (in-bounds c g .texts .of-tag) l,
+      let i = reads-written (bundled contents) (length (bundled before)) c (bundled after) r g l a in (
+        lies (bundled contents) (length (bundled before)) c (bundled after) r i (in-bounds c g .texts .of-tag) l,
+        ap
+            (λ (x : Record). x .length) i,
+      ),
 )
 
 none-allowed : (x : ℕ) (rest : List ℕ) → takeRecords 0 (x ∷ rest) ≡ refused 15
@@ -180,6 +177,20 @@ bytes-after-record-64 contents x rest b t n e =
     let m = bundle-then contents 0 (x ∷ rest) t in
     e ∙ ap counted (rw (k, none-allowed x rest) at m)
 
+some-left : (n x : ℕ) (rest : List ℕ) (m : ℕ) → takeRecord (x ∷ rest) ≡ refused m → takeRecords (suc n) (x ∷ rest) ≡ refused m
+unfolding takeRecords
+some-left n x rest m e = simp (ne-eqb (length (x ∷ rest)) 0 (suc-ne-zero (length rest)), e)
+
+pub bundle-refused-by-its-record : Bundle-refused-by-its-record
+unfolding bundleReading
+bundle-refused-by-its-record contents x rest r b t n a h e =
+    let s = bundled contents ++ (x ∷ rest) in
+    let left : drop (length (bundled contents)) s ≡ x ∷ rest = drop-at (bundled contents) (x ∷ rest) (length (bundled contents)) refl in
+    let q : takeRecord (x ∷ rest) ≡ refused (r .number) = rw left at (was-refused s (length (bundled contents)) r a h) in
+    let k : length contents + suc (63 - length contents) ≡ 64 = omega (arith, n) in
+    let m = bundle-then contents (suc (63 - length contents)) (x ∷ rest) t in
+    e ∙ ap counted (rw (k, some-left (63 - length contents) x rest (r .number) q) at m)
+
 pub no-two-ways-for-a-bundle : No-two-ways-for-a-bundle
 no-two-ways-for-a-bundle contents contents′ t t′ e =
     let n = length contents + length contents′ in
@@ -187,10 +198,6 @@ no-two-ways-for-a-bundle contents contents′ t t′ e =
     (sym (bundle-back contents n t (omega arith)) ∙ ap (λ (s : List ℕ). takeRecords n s) e ∙ bundle-back contents′ n t′ (omega arith))
 
 -- ---- a bundle that is accepted
-
-pick-not-zero : (b : Bool) (x y : Read (List Content)) → NotZero x → NotZero y → NotZero (pick b x y)
-pick-not-zero true x y h k = h
-pick-not-zero false x y h k = k
 
 records-not-zero : (allowed : ℕ) (s : List ℕ) → NotZero (takeRecords allowed s)
 unfolding takeRecords

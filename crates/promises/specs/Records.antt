@@ -15,7 +15,8 @@ use Rattle.fields.specs.Fields.{Rule, refused, got, told, takeField, fields, fi
 use Rattle.fields.specs.Answers.{part}
 use Rattle.record.specs.declared.reader.Record.{Record}
 use Rattle.record.specs.declared.reader.Bundle.{Bundle}
-use Rattle.record.specs.HouseRecord.{rules, Content, written, bundled, rowData, Writing, noRecord, WriteAllows, RowDataAllows, ReadAllows, BundleAllows}
+use Rattle.record.specs.HouseRecord.{rules, Content, written, bundled, rowData, Writing, noRecord}
+use Rattle.record.specs.HouseRecord.{WriteAllows, RowDataAllows, ReadAllows, BundleAllows}
 use Rattle.promises.specs.Statements.{Given, Returned}
 
 -- ---- one record, both ways
@@ -97,7 +98,8 @@ Reads-the-bundle-that-was-written = (contents : List Content) (b : Bundle) → A
     → BundleAllows (bundled contents) b
     → (b ≡ record { number = 0; records = length contents })
     × ((before after : List Content) (c : Content) (r : Record) → contents ≡ before ++ (c ∷ after)
-    → ReadAllows (bundled contents) (length (bundled before)) r → Gives (bundled contents) c r)
+    → ReadAllows (bundled contents) (length (bundled before)) r
+    → Gives (bundled contents) c r × (r .length ≡ length (written c)))
 
 -- A bundle that is accepted is what the writer writes for 0 to 64 contents, as many as were counted.
 pub record WasWritten (s : List ℕ) (b : Bundle) : Type 0 where
@@ -118,6 +120,12 @@ No-two-ways-for-a-bundle = (contents contents′ : List Content) → AllTaken co
 abbrev pub Bytes-after-record-64 : Type 0
 Bytes-after-record-64 = (contents : List Content) (x : ℕ) (rest : List ℕ) (b : Bundle) → AllTaken contents → length contents ≡ 64
     → BundleAllows (bundled contents ++ (x ∷ rest)) b → b ≡ record { number = 15; records = 0 }
+
+-- Where a record in a bundle can't be read, with fewer than 64 good ones before it, its number is the bundle's.
+abbrev pub Bundle-refused-by-its-record : Type 0
+Bundle-refused-by-its-record = (contents : List Content) (x : ℕ) (rest : List ℕ) (r : Record) (b : Bundle) → AllTaken contents
+    → length contents < 64 → ReadAllows (bundled contents ++ (x ∷ rest)) (length (bundled contents)) r → (r .number ≡ 0 → ⊥)
+    → BundleAllows (bundled contents ++ (x ∷ rest)) b → b ≡ record { number = r .number; records = 0 }
 
 -- ---- what a refusal leaves, and where the parts of a record lie
 
@@ -151,7 +159,7 @@ pub record Within (s : List ℕ) (at : ℕ) (r : Record) : Type 0 where
   pub longest : r .length ≤ 5172
 
 abbrev pub Places-lie-within : Type 0
-Places-lie-within = (s : List ℕ) (at : ℕ) (r : Record) → Bytes s → ReadAllows s at r → r .number ≡ 0 → Within s at r
+Places-lie-within = (s : List ℕ) (at : ℕ) (r : Record) → ReadAllows s at r → r .number ≡ 0 → Within s at r
 
 -- ---- the numbers in their order
 
@@ -172,10 +180,10 @@ pub record ChecksInOrder (r : Rule) (s : List ℕ) : Type 0 where
 abbrev pub Read-field-by-field : Type 0
 Read-field-by-field =
     ((r : Rule) (s : List ℕ) → ChecksInOrder r s)
-    × ((before others : List Rule) (r : Rule) (bodies : List (List ℕ)) (left : List ℕ) (n : ℕ) (outcome : Record)
+    × ((before others : List Rule) (r : Rule) (bodies : List (List ℕ)) (front left : List ℕ) (n : ℕ) (outcome : Record)
     → rules (getD (fields before bodies ++ left) 3 0) ≡ before ++ (r ∷ others)
     → fieldsRefusal before bodies ≡ 0 → length bodies ≡ length before → takeField r left ≡ refused n
-    → ReadAllows (fields before bodies ++ left) 0 outcome → outcome ≡ noRecord n)
+    → ReadAllows (front ++ (fields before bodies ++ left)) (length front) outcome → outcome ≡ noRecord n)
 
 abbrev pub InRange : ℕ → ℕ → Type 0
 InRange greatest n = (1 ≤ n) × (n ≤ greatest)

@@ -1,2 +1,2 @@
-// What a caller may rely on: the statements are in specs/, their proofs in proofs/. There is no code here; the contracts of
-// `deoxys::seal` and `deoxys::open` tie the statements to the code.
+// What a caller may rely on: the statements are in specs/, their proofs in proofs/. There is no code here; the contracts of the
+// operations, of `deoxys`, `pieces` and `record`, tie the statements to the code.

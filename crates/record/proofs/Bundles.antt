@@ -1,4 +1,4 @@
--- A bundle: each return and each turn of `read_bundle`; reading what was written gives it back, and whatever is accepted was written.
+-- What the reader's answer says of the bytes, and each return and each turn of `read_bundle`.
 -- Assumes nothing.
 use mathlib.Core.Path.{_≡_, refl, sym, ap, _∙_, subst}
 use mathlib.Core.Bool.{false}
@@ -15,7 +15,7 @@ use Rattle.record.specs.declared.reader.Bundle.{Bundle}
 use Rattle.fields.specs.Fields.{Read, refused, got, andThen}
 use Rattle.record.specs.HouseRecord.{Content, written, takeRecord, takeRecords, foundAt, answerAt, reading, counted, bundleReading}
 use Rattle.fields.proofs.Accepting.{NotZero}
-use Rattle.record.proofs.WholeRecord.{record-not-zero, took-record}
+use Rattle.record.proofs.WholeRecord.{record-not-zero, Lengths, took-record}
 
 -- ---- what the reader's answer says
 
@@ -25,6 +25,7 @@ pub record ReadAt (s : List ℕ) (at : ℕ) (r : Record) : Type 0 where
   pub is : r ≡ foundAt at content
   pub taken : takeRecord (drop at s) ≡ got content (drop (at + r .length) s)
   pub within : r .length ≤ length s - at
+  pub lengths : Lengths content
 
 module _ (s : List ℕ) (at : ℕ) (r : Record) (e : r ≡ reading s at) where
   pub was-refused : (r .number ≡ 0 → ⊥) → takeRecord (drop at s) ≡ refused (r .number)
@@ -48,8 +49,9 @@ module _ (s : List ℕ) (at : ℕ) (r : Record) (e : r ≡ reading s at) where
           record {
             content = c;
             is = k;
-            taken = q ∙ ap (λ (x : List ℕ). got c x) (t .0 ∙ rw k (drop-drop (length (written c)) at s));
-            within = rw k (rw (length-drop at s) at (t .1));
+            taken = q ∙ ap (λ (x : List ℕ). got c x) (t .left ∙ rw k (drop-drop (length (written c)) at s));
+            within = rw k (rw (length-drop at s) at (t .within));
+            lengths = t .lengths;
           }
 
 -- ---- the loop: from here on, with so many records before
@@ -66,7 +68,7 @@ from-none s = by (takeRecords 64 s)
     by (refused n) = refl
     by (got contents left) = ap (λ (n : ℕ). record { number = 0; records = n }) (zero-add (length contents))
 
-no-bytes : (allowed : ℕ) → takeRecords allowed [] ≡ got [] []
+pub no-bytes : (allowed : ℕ) → takeRecords allowed [] ≡ got [] []
 unfolding takeRecords
 no-bytes zero = refl
 no-bytes (suc allowed) = refl

@@ -5,3 +5,4 @@ pub mod RecordAt
 pub mod WholeRecord
 pub mod Bundles
 pub mod Writings
+pub mod Values

@@ -155,23 +155,49 @@ six-lengths : (suite : ℕ) (b₁ b₂ b₃ b₄ b₅ b₆ : List ℕ) → lengt
 unfolding fields field bigEndian
 six-lengths suite b₁ b₂ b₃ b₄ b₅ b₆ e f = simp length-append (omega arith)
 
-pub took-record : (s : List ℕ) (c : Content) (rest : List ℕ) → takeRecord s ≡ got c rest
-    → (rest ≡ drop (length (written c)) s) × (length (written c) ≤ length s)
+-- the lengths of a record that was taken
+pub record Lengths (c : Content) : Type 0 where
+  pub of-nonce : length (c .nonce) ≤ 15
+  pub of-note : length (c .note) ≤ 1024
+  pub of-cipher : length (c .cipher) ≤ 4096
+  pub of-tag : length (c .tag) ≡ 16
+
+pub record Gone (s : List ℕ) (c : Content) (rest : List ℕ) : Type 0 where
+  pub left : rest ≡ drop (length (written c)) s
+  pub within : length (written c) ≤ length s
+  pub lengths : Lengths c
+
+at-most : (n m : ℕ) → between 0 n m ≡ true → m ≤ n
+at-most n m e = leb-true m n (both (leb 0 m) (leb m n) e .1)
+
+pub took-record : (s : List ℕ) (c : Content) (rest : List ℕ) → takeRecord s ≡ got c rest → Gone s c rest
 unfolding takeRecord
 took-record s c rest e =
     let a = through (takeFields (rules (getD s 3 0)) s) _ e in
     let k = took-all (rules (getD s 3 0)) s (a .first) (a .between) (a .got-first) in
-    far (a .first) (a .between) (got-value (a .got-then)) (got-left (a .got-then))
-    (subst (λ (l : List (List ℕ)). Took (rules (getD s 3 0)) s l (a .between)) (sym (six (a .first) (k .count))) k)
+    subst (λ (x : Content). Gone s x rest) (got-value (a .got-then))
+    (far (a .first) (a .between) (got-left (a .got-then))
+    (subst (λ (l : List (List ℕ)). Took (rules (getD s 3 0)) s l (a .between)) (sym (six (a .first) (k .count))) k))
   where
-    far : (found : List (List ℕ)) (left : List ℕ) → contentOf found ≡ c → left ≡ rest
+    far : (found : List (List ℕ)) (left : List ℕ) → left ≡ rest
         → Took (rules (getD s 3 0)) s
         (getD found 0 [] ∷ getD found 1 [] ∷ getD found 2 [] ∷ getD found 3 [] ∷ getD found 4 [] ∷ getD found 5 [] ∷ []) left
-        → (rest ≡ drop (length (written c)) s) × (length (written c) ≤ length s)
-    far found left ec er t =
+        → Gone s (contentOf found) rest
+    far found left er t =
         let n : length (fields (rules (getD s 3 0))
         (getD found 0 [] ∷ getD found 1 [] ∷ getD found 2 [] ∷ getD found 3 [] ∷ getD found 4 [] ∷ getD found 5 [] ∷ []))
         ≡ length (written (contentOf found)) =
         six-lengths (getD s 3 0) _ _ _ _ _ _ (exactly 1 _ (t .sized .0)) (exactly 2 _ (t .sized .1 .0))
         ∙ sym (written-length (contentOf found)) in
-        (rw (← er, ← ec, ← n) (t .left), rw (← ec, ← n) (t .within))
+        let texts = t .sized .1 .1 in
+        let m = exactly (nonceLength (getD s 3 0)) (length (getD found 2 [])) (texts .0) in
+        record {
+          left = rw (← er, ← n) (t .left);
+          within = rw (← n) (t .within);
+          lengths = record {
+            of-nonce = let b = nonce-short (getD s 3 0) in omega (arith, m, b);
+            of-note = at-most 1024 _ (texts .1 .0);
+            of-cipher = at-most 4096 _ (texts .1 .1 .0);
+            of-tag = exactly 16 _ (texts .1 .1 .1 .0);
+          };
+        }

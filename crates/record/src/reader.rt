@@ -1,9 +1,7 @@
 // The reader: of one record at a place, and of a bundle.
 ghost use mathlib.Core.Path.{_≡_};
-ghost use mathlib.Core.List.{[], _∷_};
-ghost use Prim.Native.Nat.{_+_, _≤_, _<_, _^_};
+ghost use Prim.Native.Nat.{_+_, _<_, _^_};
 ghost use lib.ListN.{length};
-ghost use Rattle.suites.specs.Suites.{nonceLength};
 ghost use Rattle.record.specs.HouseRecord.{takeRecord, noRecord, answerAt, ReadAllows, BundleAllows};
 ghost use Rattle.record.specs.Parts.{HeadRead, TextsRead};
 use crate::house;
@@ -14,7 +12,7 @@ use fields::wide;
 
 const TOO_MANY: u8 = 15;
 
-const MOST_RECORDS: usize = 64;
+pub const MOST_RECORDS: usize = 64;
 
 // What the reader answers: a number, suite and row, where each text lies in the bytes given and how long it is (the tag has 16 bytes), and
 // the record's own length. Refused, all but the number is zero.

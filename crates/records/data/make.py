@@ -224,8 +224,8 @@ def write_faults(suite):
     """For each field in its order, and last the room, the wrong values tried: a number, or a length; the room's is what it lacks."""
     nonce = NONCE[suite]
     return [
-        (1, (0, 5, 255)),
-        (2, (0, 21, 65535, 256, 5120)),
+        (1, (0, 5, 255, 9, 129)),
+        (2, (0, 21, 65535, 256, 5120, 263)),
         (3, (nonce - 1, nonce + 1, 23 - nonce, 0)),
         (4, (1025,)),
         (5, (4097,)),
@@ -263,7 +263,7 @@ def row_data():
             assert data_line(row, text, room) == (0 if room > note + 1 else 24)
     for row in range(2, 20):
         data_line(row, fixed(SHORT_NOTE, "data", row), SHORT_NOTE + 2)
-    for row, note, room in itertools.product((0, 21, 65535, 256, 5120), (0, 1025), (0, 1027)):
+    for row, note, room in itertools.product((0, 21, 65535, 256, 5120, 263), (0, 1025), (0, 1027)):
         assert data_line(row, fixed(note, "data", row, note), room) == 13
     for room in (0, 1026, 1027, 1028):
         assert data_line(7, fixed(1025, "data"), room) == 12
@@ -312,12 +312,12 @@ TAG, LENGTH, RANGE = 11, 12, 13
 
 
 def wrong_lengths(tag, n):
-    """One less, one more, the bytes exchanged, too great."""
+    """One less, one more, the bytes exchanged, too great, by one high bit too."""
     most = {4: (1025, 1280), 5: (4097, 4352)}.get(tag, (0, 256 + n))
-    return sorted({n - 1, n + 1, n * 256, 65535, *most})
+    return sorted({n - 1, n + 1, n * 256, 65535, n + 0x2000, n + 0x4000, n + 0x8000, *most})
 
 
-WRONG_NUMBERS = {1: (0, 5, 255), 2: (0, 21, 256, 5120, 65535)}
+WRONG_NUMBERS = {1: (0, 5, 255, 9, 129), 2: (0, 21, 256, 5120, 65535, 263)}
 
 
 def spoilt(parts, tag, kind, turn=0):

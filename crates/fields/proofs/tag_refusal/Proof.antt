@@ -1,11 +1,11 @@
 -- `fields::tag_refusal` meets its contract, return by return.
 -- Assumes nothing.
-use Rattle.fields.proofs.Ranges.{tag-other, tag-same}
+use Rattle.fields.proofs.Ranges.{tag-differs, tag-same}
 use Rattle.fields.proofs.tag_refusal.Statement.{statement}
 use Rattle.fields.proofs.tag_refusal.Tie as tie
 
 returns : tie.Need-returns
-returns c = tag-other _ _ (c .if1 .taken)
+returns c = tag-differs _ _ (c .if1 .taken)
 
 returns-2 : tie.Need-returns-2
 returns-2 c = tag-same _ _ (c .if1 .left)
