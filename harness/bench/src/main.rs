@@ -5,9 +5,9 @@
 mod records;
 mod stopwatch;
 
-use calibration::{LIMIT, SUITES};
+use calibration::{BUNDLE_RECORDS, LIMIT, SUITES};
 use cases::Case;
-use records::{RECORDS, Records, Work};
+use records::{Records, Work};
 use std::process::ExitCode;
 use stopwatch::{Operation, PIECE, ROUNDS, Side, Task};
 
@@ -149,7 +149,7 @@ fn ratio_by_pieces(task: &Task) -> Option<f64> {
 
 fn print_heading_of_records(records: &Records) {
     println!(
-        "\nA bundle of {RECORDS} longest records, {} bytes, beside a copy of its bytes, in the same rounds: a \
+        "\nA bundle of {BUNDLE_RECORDS} longest records, {} bytes, beside a copy of its bytes, in the same rounds: a \
          ratio is the time over that of the copy, and for reading has to be at most {MOST_COPIES}.\n",
         records.bytes()
     );

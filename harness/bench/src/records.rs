@@ -1,15 +1,12 @@
 //! The longest bundle, read, and its records written, beside a copy of its bytes.
 
 use crate::stopwatch::Times;
-use calibration::{Found, Record, SUITES, read_bundle, read_record, write_record};
+use calibration::{
+    BUNDLE_LIMIT, BUNDLE_RECORDS, CIPHER_LIMIT, Found, NOTE_LIMIT, RECORD_LIMIT, Record, SUITES,
+    read_bundle, read_record, write_record,
+};
 use cases::Generator;
 use std::{hint::black_box, time::Instant};
-
-pub const RECORDS: usize = 64;
-
-const NOTE: usize = 1024;
-const CIPHER: usize = 4096;
-const LONGEST: usize = 5172;
 
 /// Calls in a measurement, so that reading the clock doesn't count.
 const CALLS: usize = 16;
@@ -48,19 +45,19 @@ pub struct Records {
 
 impl Records {
     pub fn new() -> Self {
-        let mut generator = Generator::new(RECORDS as u64);
-        let mut bundle = vec![0; RECORDS * LONGEST];
-        for place in bundle.chunks_exact_mut(LONGEST) {
+        let mut generator = Generator::new(BUNDLE_RECORDS as u64);
+        let mut bundle = vec![0; BUNDLE_LIMIT];
+        for place in bundle.chunks_exact_mut(RECORD_LIMIT) {
             let suite = &SUITES[3];
             let record = Record {
                 suite: suite.number,
                 row: 20,
                 nonce: &generator.bytes(suite.nonce_length),
-                note: &generator.bytes(NOTE),
-                cipher: &generator.bytes(CIPHER),
+                note: &generator.bytes(NOTE_LIMIT),
+                cipher: &generator.bytes(CIPHER_LIMIT),
                 tag: &generator.bytes(16),
             };
-            assert_eq!(write_record(&record, place), Ok(LONGEST), "the longest record");
+            assert_eq!(write_record(&record, place), Ok(RECORD_LIMIT), "the longest record");
         }
         Records { bundle, times: Times::new(&Work::ALL) }
     }
@@ -84,7 +81,7 @@ impl Records {
         let start = Instant::now();
         for _ in 0..CALLS {
             let done = self.call(work, &records, black_box(&mut *destination));
-            assert_eq!(done, RECORDS, "a wrong answer in {}", work.name());
+            assert_eq!(done, BUNDLE_RECORDS, "a wrong answer in {}", work.name());
         }
         let time = start.elapsed().as_nanos() as f64 / CALLS as f64;
         assert!(work.is_reading() || destination == self.bundle, "{}", work.name());
@@ -96,12 +93,12 @@ impl Records {
         match work {
             Work::Copying => {
                 destination.copy_from_slice(black_box(&self.bundle));
-                RECORDS
+                BUNDLE_RECORDS
             }
             Work::ReadingTheBundle => read_bundle(black_box(&self.bundle)).unwrap_or(0),
             Work::ReadingEachRecord => self.each().map(black_box).count(),
             Work::WritingEachRecord => {
-                let pairs = records.iter().zip(destination.chunks_exact_mut(LONGEST));
+                let pairs = records.iter().zip(destination.chunks_exact_mut(RECORD_LIMIT));
                 let write = |(record, place)| write_record(black_box(record), place).ok();
                 pairs.filter_map(write).count()
             }

@@ -10,7 +10,10 @@ mod records;
 mod suite;
 
 pub use pieces::{Pieces, Refused};
-pub use records::{Found, Record, RecordRefusal, read_bundle, read_record, write_record};
+pub use records::{
+    BUNDLE_LIMIT, BUNDLE_RECORDS, CIPHER_LIMIT, Found, NOTE_LIMIT, RECORD_LIMIT, ROW_LIMIT, Record,
+    RecordRefusal, read_bundle, read_record, write_record,
+};
 pub use suite::{SUITES, Suite};
 
 use std::fmt;

@@ -3,6 +3,15 @@
 use crate::ffi;
 use std::fmt;
 
+/// The most bytes of a note, of a ciphertext, of a record and of a bundle; the highest row; the most records of a
+/// bundle. The header has the same numbers.
+pub const NOTE_LIMIT: usize = 1024;
+pub const CIPHER_LIMIT: usize = 4096;
+pub const ROW_LIMIT: u16 = 20;
+pub const RECORD_LIMIT: usize = 5172;
+pub const BUNDLE_RECORDS: usize = 64;
+pub const BUNDLE_LIMIT: usize = 331_008;
+
 /// What a record holds, to be written or as it was read. Reading checks the layout and not the tag: what was
 /// read is authentic only once it has been opened.
 #[derive(Clone, Copy, Debug, PartialEq, Eq)]

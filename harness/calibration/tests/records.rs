@@ -5,8 +5,8 @@ mod inputs;
 mod model;
 
 use calibration::{
-    Found, Record, RecordRefusal, Refusal, SUITES, Suite, ffi, open, read_bundle, read_record,
-    seal, write_record,
+    BUNDLE_LIMIT, BUNDLE_RECORDS, CIPHER_LIMIT, Found, NOTE_LIMIT, RECORD_LIMIT, ROW_LIMIT, Record,
+    RecordRefusal, Refusal, SUITES, Suite, ffi, open, read_bundle, read_record, seal, write_record,
 };
 use cases::{Generator, combinations, surrounded};
 use guarded::Guarded;
@@ -527,6 +527,15 @@ fn a_row_is_sealed_and_kept_and_opened_again() {
 }
 
 #[test]
+fn the_limits_are_those_of_the_request() {
+    assert_eq!((NOTE_LIMIT, CIPHER_LIMIT, ROW_LIMIT), (1024, 4096, 20));
+    assert_eq!(
+        (RECORD_LIMIT, BUNDLE_RECORDS, BUNDLE_LIMIT),
+        (LONGEST, MOST_RECORDS, LONGEST_BUNDLE)
+    );
+}
+
+#[test]
 fn what_a_refusal_says() {
     let refusals = [
         (read_record(&[1, 0], 0).unwrap_err(), 10, "bytes are missing"),
@@ -541,6 +550,8 @@ fn what_a_refusal_says() {
             13,
             "the suite isn't 1 to 4, or the row isn't 1 to 20",
         ),
+        (RecordRefusal::TooManyRecords, 15, "there are bytes after record 64"),
+        (RecordRefusal::NoRoom, 24, "the destination is shorter than the record"),
     ];
     for (refusal, number, text) in refusals {
         assert_eq!((refusal.number(), refusal.to_string().as_str()), (number, text));
