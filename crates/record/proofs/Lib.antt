@@ -5,4 +5,5 @@ pub mod RecordAt
 pub mod WholeRecord
 pub mod Bundles
 pub mod Writings
+pub mod WriteReturns
 pub mod Values

@@ -1,10 +1,19 @@
 -- `record::reader::read_left` meets its contract: the head's number, the texts' number, or the record and its places.
 -- Assumes nothing.
 use Rattle.record.proofs.RecordAt.{head-refused, texts-refused, record-room, record-read}
+use Prim.Native.Nat.{_+_, _≤_}
 use native.Mathlib.Omega.{arith}
+use lib.ListN.{length}
 use borrow.Author.Needs.{needs}
 use Rattle.record.proofs.reader.read_left.Statement.{statement}
 use Rattle.record.proofs.reader.read_left.Tie as tie
+use Rattle.record.proofs.reader.read_left.Lts as lts
+use Rattle.record.proofs.reader.read_left.Reads as reads
+use Rattle.record.proofs.reader.head_refusal.Reads as head-refusal
+use Rattle.record.proofs.reader.no_record.Reads as no-record
+use Rattle.record.proofs.reader.read_texts.Reads as read-texts
+use Rattle.suites.proofs.nonce_length.Reads as nonce-length
+use Rattle.fields.proofs.pair.Reads as pair
 
 head-refusal-requires : tie.Need-head-refusal-requires
 head-refusal-requires c κs = search needs
@@ -47,93 +56,50 @@ returns-2 c =
     rw (c .no-record2 .ensures) (texts-refused _ _ (c₅ .head-refusal .ensures) (c₆ .args .at) (c₄ .if1 .left) _ (c₃ .nonce-length .ensures)
     _ (c₂ .read-texts .ensures) (c₁ .if2 .taken))
 
+-- the record is all there, once its fields are
+room : (c : lts.Else2 (
+  head-refusal.Asked,
+  head-refusal.Learnt,
+  no-record.Asked,
+  no-record.Learnt,
+  nonce-length.Asked,
+  nonce-length.Learnt,
+  read-texts.Asked,
+  read-texts.Learnt,
+  pair.Asked,
+  pair.Learnt,
+) reads.Pre reads.Post)
+    → 37 + c .before .before .before .before .nonce-length .result + c .before .before .read-texts .result .note + c .before .before
+    .read-texts .result .cipher
+    ≤ length (c .before .before .before .before .before .before .before .before .before .args .left .now)
+room c =
+    record-room _ _ (c .before .before .before .before .before .before .before .head-refusal .ensures) 0
+    (c .before .before .before .before .before .before .if1 .left) _ (c .before .before .before .before .nonce-length .ensures) _
+    (c .before .before .read-texts .ensures) (c .if2 .left)
+
 add-note : tie.Need-add-note
-add-note c =
-    let c₁ = c .before .before in
-    let c₂ = c₁ .before .before in
-    let c₃ = c₂ .before .before in
-    let c₄ = c₃ .before in
-    let c₅ = c₄ .before .before in
-    search (
-      record-room _ _ (c₄ .head-refusal .ensures) (c₅ .args .at) (c₃ .if1 .left) _ (c₂ .nonce-length .ensures) _
-          (c₁ .read-texts .ensures) (c .if2 .left),
-      c₅ .pre,
-      needs,
-    )
+add-note c = search (room c, c .before .before .before .before .before .before .before .before .before .pre, needs)
 
 add-note-2 : tie.Need-add-note-2
-add-note-2 c =
-    let c₁ = c .before .before in
-    let c₂ = c₁ .before .before in
-    let c₃ = c₂ .before .before in
-    let c₄ = c₃ .before in
-    let c₅ = c₄ .before .before in
-    search (
-      record-room _ _ (c₄ .head-refusal .ensures) (c₅ .args .at) (c₃ .if1 .left) _ (c₂ .nonce-length .ensures) _
-          (c₁ .read-texts .ensures) (c .if2 .left),
-      c₅ .pre,
-      needs,
-    )
+add-note-2 c = search (room c, c .before .before .before .before .before .before .before .before .before .pre, needs)
 
 add-cipher : tie.Need-add-cipher
-add-cipher c =
-    let c₁ = c .before in
-    let c₂ = c₁ .before .before in
-    let c₃ = c₂ .before .before in
-    let c₄ = c₃ .before .before in
-    let c₅ = c₄ .before in
-    let c₆ = c₅ .before .before in
-    search (
-      record-room _ _ (c₅ .head-refusal .ensures) (c₆ .args .at) (c₄ .if1 .left) _ (c₃ .nonce-length .ensures) _
-          (c₂ .read-texts .ensures) (c₁ .if2 .left),
-      c₆ .pre,
-      needs,
-    )
+add-cipher c = search (room (c .before), c .before .before .before .before .before .before .before .before .before .before .pre, needs)
 
 add-cipher-2 : tie.Need-add-cipher-2
-add-cipher-2 c =
-    let c₁ = c .before in
-    let c₂ = c₁ .before .before in
-    let c₃ = c₂ .before .before in
-    let c₄ = c₃ .before .before in
-    let c₅ = c₄ .before in
-    let c₆ = c₅ .before .before in
-    search (
-      record-room _ _ (c₅ .head-refusal .ensures) (c₆ .args .at) (c₄ .if1 .left) _ (c₃ .nonce-length .ensures) _
-          (c₂ .read-texts .ensures) (c₁ .if2 .left),
-      c₆ .pre,
-      needs,
-    )
+add-cipher-2 c = search (room (c .before), c .before .before .before .before .before .before .before .before .before .before .pre, needs)
 
 add-tag : tie.Need-add-tag
 add-tag c =
     let c₁ = c .before .before in
-    let c₂ = c₁ .before .before in
-    let c₃ = c₂ .before .before in
-    let c₄ = c₃ .before .before in
-    let c₅ = c₄ .before in
-    let c₆ = c₅ .before .before in
-    search (
-      record-room _ _ (c₅ .head-refusal .ensures) (c₆ .args .at) (c₄ .if1 .left) _ (c₃ .nonce-length .ensures) _
-          (c₂ .read-texts .ensures) (c₁ .if2 .left),
-      c₆ .pre,
-      needs,
-    )
+    let c₂ = c₁ .before .before .before .before .before .before .before .before .before in
+    search (room (c₁), c₂ .pre, needs)
 
 add-tag-2 : tie.Need-add-tag-2
 add-tag-2 c =
     let c₁ = c .before .before in
-    let c₂ = c₁ .before .before in
-    let c₃ = c₂ .before .before in
-    let c₄ = c₃ .before .before in
-    let c₅ = c₄ .before in
-    let c₆ = c₅ .before .before in
-    search (
-      record-room _ _ (c₅ .head-refusal .ensures) (c₆ .args .at) (c₄ .if1 .left) _ (c₃ .nonce-length .ensures) _
-          (c₂ .read-texts .ensures) (c₁ .if2 .left),
-      c₆ .pre,
-      needs,
-    )
+    let c₂ = c₁ .before .before .before .before .before .before .before .before .before in
+    search (room (c₁), c₂ .pre, needs)
 
 pair-requires : tie.Need-pair-requires
 pair-requires c κs =
@@ -148,32 +114,14 @@ cast-t17 c = search needs
 add-t18 : tie.Need-add-t18
 add-t18 c =
     let c₁ = c .before .before .before in
-    let c₂ = c₁ .before .before in
-    let c₃ = c₂ .before .before in
-    let c₄ = c₃ .before .before in
-    let c₅ = c₄ .before in
-    let c₆ = c₅ .before .before in
-    search (
-      record-room _ _ (c₅ .head-refusal .ensures) (c₆ .args .at) (c₄ .if1 .left) _ (c₃ .nonce-length .ensures) _
-          (c₂ .read-texts .ensures) (c₁ .if2 .left),
-      c₆ .pre,
-      needs,
-    )
+    let c₂ = c₁ .before .before .before .before .before .before .before .before .before in
+    search (room (c₁), c₂ .pre, needs)
 
 add-t19 : tie.Need-add-t19
 add-t19 c =
     let c₁ = c .before .before .before in
-    let c₂ = c₁ .before .before in
-    let c₃ = c₂ .before .before in
-    let c₄ = c₃ .before .before in
-    let c₅ = c₄ .before in
-    let c₆ = c₅ .before .before in
-    search (
-      record-room _ _ (c₅ .head-refusal .ensures) (c₆ .args .at) (c₄ .if1 .left) _ (c₃ .nonce-length .ensures) _
-          (c₂ .read-texts .ensures) (c₁ .if2 .left),
-      c₆ .pre,
-      needs,
-    )
+    let c₂ = c₁ .before .before .before .before .before .before .before .before .before in
+    search (room (c₁), c₂ .pre, needs)
 
 sub-t20 : tie.Need-sub-t20
 sub-t20 c = search needs

@@ -1,9 +1,8 @@
 -- `record::writer::write` meets its contract: refused by the fields, refused for want of room, or laid.
 -- Assumes nothing.
 use Rattle.record.proofs.WholeRecord.{nonce-short}
-use Rattle.record.proofs.Sizes.{written-length}
-use Rattle.record.specs.HouseRecord.{Content, written, writing}
-use Rattle.record.proofs.Writings.{head-refuses, texts-refuse, fit, refused-out, short-out, done-out}
+use Rattle.record.proofs.Writings.{fit}
+use Rattle.record.proofs.WriteReturns.{by-head, by-texts, by-room, by-laying}
 use mathlib.Core.Path.{sym, _∙_}
 use native.Mathlib.Omega.{arith}
 use borrow.Author.Needs.{needs}
@@ -17,23 +16,7 @@ refused-requires : tie.Need-refused-requires
 refused-requires c κs = search needs
 
 returns : tie.Need-returns
-unfolding writing
-returns c =
-    let c₁ = c .before in
-    let c₂ = c₁ .before in
-    let c₃ = c₂ .before .before .before .before .before .before in
-    let a = c₃ .args in
-    let x : Content = record {
-      suite = a .suite;
-      row = a .row;
-      nonce = a .nonce .now;
-      note = a .note .now;
-      cipher = a .cipher .now;
-      tag = a
-          .tag .now;
-    } in
-    rw (c .refused .ensures) (refused-out _ (written x) _ _ (head-refuses x _ (c₂ .head-refusal .ensures) (c₁ .if1 .taken))
-    (c₁ .if1 .taken))
+returns c = rw (c .refused .ensures) (by-head _ _ _ (c .before .before .head-refusal .ensures) (c .before .if1 .taken))
 
 nonce-length-requires : tie.Need-nonce-length-requires
 nonce-length-requires c κs = search needs
@@ -45,26 +28,14 @@ refused-requires-2 : tie.Need-refused-requires-2
 refused-requires-2 c κs = search needs
 
 returns-2 : tie.Need-returns-2
-unfolding writing
 returns-2 c =
     let c₁ = c .before in
     let c₂ = c₁ .before in
     let c₃ = c₂ .before in
     let c₄ = c₃ .before in
     let c₅ = c₄ .before in
-    let c₆ = c₅ .before .before .before .before .before .before in
-    let a = c₆ .args in
-    let x : Content = record {
-      suite = a .suite;
-      row = a .row;
-      nonce = a .nonce .now;
-      note = a .note .now;
-      cipher = a .cipher .now;
-      tag = a
-          .tag .now;
-    } in
-    rw (c .refused2 .ensures) (refused-out _ (written x) _ _ (texts-refuse x _ (c₅ .head-refusal .ensures) (c₄ .if1 .left) _
-    (rw (c₃ .nonce-length .ensures) at (c₂ .texts-refusal .ensures))) (c₁ .if2 .taken))
+    rw (c .refused2 .ensures) (by-texts _ _ _ (c₅ .head-refusal .ensures) (c₄ .if1 .left) _ (c₃ .nonce-length .ensures) _
+    (c₂ .texts-refusal .ensures) (c₁ .if2 .taken))
 
 add-length : tie.Need-add-length
 add-length c = search needs
@@ -87,7 +58,6 @@ refused-requires-3 : tie.Need-refused-requires-3
 refused-requires-3 c κs = search needs
 
 returns-3 : tie.Need-returns-3
-unfolding writing
 returns-3 c =
     let c₁ = c .before in
     let c₂ = c₁ .before in
@@ -95,22 +65,8 @@ returns-3 c =
     let c₄ = c₃ .before in
     let c₅ = c₄ .before in
     let c₆ = c₅ .before in
-    let c₇ = c₆ .before .before .before .before .before .before in
-    let a = c₇ .args in
-    let x : Content = record {
-      suite = a .suite;
-      row = a .row;
-      nonce = a .nonce .now;
-      note = a .note .now;
-      cipher = a .cipher .now;
-      tag = a
-          .tag .now;
-    } in
-    let z = sym (texts-refuse x _ (c₆ .head-refusal .ensures) (c₅ .if1 .left) _
-    (rw (c₄ .nonce-length .ensures) at (c₃ .texts-refusal .ensures))) ∙ c₂ .if2 .left in
-    let f = fit _ _ _ _ _ (sym (c₃ .texts-refusal .ensures) ∙ c₂ .if2 .left) in
-    let w = written-length x in
-    rw (c .refused3 .ensures) (short-out _ (written x) _ z (omega (arith, w, f .of-tag, c₁ .if3 .taken)))
+    rw (c .refused3 .ensures) (by-room _ _ _ (c₆ .head-refusal .ensures) (c₅ .if1 .left) _ (c₄ .nonce-length .ensures) _
+    (c₃ .texts-refusal .ensures) (c₂ .if2 .left) _ (c₁ .if3 .taken) (omega arith))
 
 lay-requires : tie.Need-lay-requires
 lay-requires c κs =
@@ -131,7 +87,6 @@ same-length : tie.Need-same-length
 same-length c = search needs
 
 returns-4 : tie.Need-returns-4
-unfolding writing
 returns-4 c =
     let c₁ = c .before .before in
     let c₂ = c₁ .before .before in
@@ -140,22 +95,8 @@ returns-4 c =
     let c₅ = c₄ .before in
     let c₆ = c₅ .before in
     let c₇ = c₆ .before in
-    let c₈ = c₇ .before .before .before .before .before .before in
-    let a = c₈ .args in
-    let x : Content = record {
-      suite = a .suite;
-      row = a .row;
-      nonce = a .nonce .now;
-      note = a .note .now;
-      cipher = a .cipher .now;
-      tag = a
-          .tag .now;
-    } in
-    let z = sym (texts-refuse x _ (c₇ .head-refusal .ensures) (c₆ .if1 .left) _
-    (rw (c₅ .nonce-length .ensures) at (c₄ .texts-refusal .ensures))) ∙ c₃ .if2 .left in
-    let f = fit _ _ _ _ _ (sym (c₄ .texts-refusal .ensures) ∙ c₃ .if2 .left) in
-    let w = written-length x in
-    done-out _ (written x) _ z _ _ (omega (arith, w, f .of-tag)) (c₁ .lay .ensures) (omega (arith, w, f .of-tag, c₂ .if3 .left))
+    by-laying _ _ _ (c₇ .head-refusal .ensures) (c₆ .if1 .left) _ (c₅ .nonce-length .ensures) _ (c₄ .texts-refusal .ensures) (c₃ .if2 .left)
+    _ _ (c₂ .if3 .left) (c₁ .lay .ensures) (omega arith)
 
 pub write-spec : {M : Type 1} → statement M
 write-spec =
