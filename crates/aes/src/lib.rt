@@ -1,4 +1,7 @@
 // The pieces of AES (FIPS 197) that the crate takes from `aes::hazmat`: mixing, and a round each way.
+
+#![tactic(auto)]
+
 ghost use Rattle.std.specs.Prelude.{◌≡◌, ◌+◌, ◌*◌, ◌/◌, ◌%◌, ◌<◌, get_or};
 ghost use Rattle.octets.specs.Octets.{table, each_byte};
 ghost use Rattle.field.specs.Field.{double};

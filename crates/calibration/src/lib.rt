@@ -1,5 +1,8 @@
 // The library's top: every function that C and Rust link, each with the very contract of what it wraps, and nothing else.
 // `include/calibration.h` declares them.
+
+#![tactic(auto)]
+
 ghost use Rattle.deoxys.specs.Entry.{SealAllows, OpenAllows};
 ghost use Rattle.pieces.specs.ByPieces.{BeginAllows, TakeAllows, FinishAllows};
 ghost use Rattle.record.specs.HouseRecord.{WriteAllows, ReadAllows, BundleAllows};

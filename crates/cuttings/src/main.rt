@@ -1,4 +1,7 @@
 // Replays sealing by pieces: scripts of pieces and finishes, each call compared, and writes what it found. The lists are files of `data/`.
+
+#![tactic(auto)]
+
 mod cut;
 mod numbers;
 mod script;

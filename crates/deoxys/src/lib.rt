@@ -1,4 +1,7 @@
 // Sealing and opening in place, for any suite number and any bytes: the entry routines of the crate's `src/lib.rs`.
+
+#![tactic(auto)]
+
 ghost use Rattle.std.specs.Prelude.{◌≡◌, length};
 ghost use Rattle.modes.specs.Answers.{answered};
 ghost use Rattle.suites.specs.Suites.{refusal};

@@ -1,4 +1,7 @@
 // The block cipher Deoxys-BC: the block routines of the crate's `src/lib.rs` over the schedule of its `src/deoxys_bc.rs`.
+
+#![tactic(auto)]
+
 ghost use Rattle.std.specs.Prelude.{◌≡◌, ◌+◌, ◌≤◌, ◌<◌, ◌^◌};
 ghost use Rattle.deoxys_bc.specs.Cipher.{encipher, decipher};
 

@@ -1,4 +1,7 @@
 // Deoxys-I: the crate's `DeoxysI` in `src/modes.rs`.
+
+#![tactic(auto)]
+
 ghost use Rattle.std.specs.Prelude.{◌≡◌, ◌++◌, ◌+◌, ◌*◌, ◌/◌, ◌%◌, ◌≤◌, ◌<◌, ◌^◌, eqb, length, take, drop};
 ghost use Rattle.octets.specs.Octets.{pick, ◌⊕◌};
 ghost use Rattle.tweaks.specs.Tweaks.{nonce_tweak};

@@ -1,4 +1,7 @@
 // Deoxys-II: the crate's `DeoxysII` in `src/modes.rs`.
+
+#![tactic(auto)]
+
 ghost use Rattle.std.specs.Prelude.{◌≡◌, ◌∷◌, ◌+◌, ◌/◌, ◌≤◌, ◌<◌, ◌^◌, length};
 ghost use Rattle.deoxys_bc.specs.Cipher.{encipher};
 ghost use Rattle.tweaks.specs.Tweaks.{keystream_tweak};

@@ -1,4 +1,7 @@
 // FIPS 197: the field (section 4) as far as the code needs it, which is doubling, and both substitution tables (5.1.1, 5.3.2).
+
+#![tactic(auto)]
+
 ghost use Rattle.std.specs.Prelude.{◌≡◌};
 ghost use Rattle.field.specs.Field.{double};
 ghost use Rattle.field.specs.Tables.{UndoEachOther};

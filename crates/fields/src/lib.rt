@@ -1,4 +1,7 @@
 // One field of the house record, request b of document 02: read from the bytes left, and laid into a destination.
+
+#![tactic(auto)]
+
 ghost use Rattle.std.specs.Prelude.{◌≡◌, ◌+◌, ◌≤◌, ◌<◌, eqb, length, get_or};
 ghost use Rattle.octets.specs.Octets.{pick};
 ghost use Rattle.fields.specs.Fields.{between, number2, field};

@@ -1,5 +1,8 @@
 // What both modes share: Auth, as `compute_ad_tag` of the crate's `src/modes.rs` has it, and what a mode answers. Here and in each mode every
 // block cipher call is one of `deoxys_bc::encipher` and `deoxys_bc::decipher`, its block used and its count handed on.
+
+#![tactic(auto)]
+
 ghost use Rattle.std.specs.Prelude.{◌≡◌, ◌+◌, ◌/◌, ◌≤◌, ◌<◌, ◌^◌, length};
 ghost use Rattle.octets.specs.Octets.{◌⊕◌, zero_block};
 ghost use Rattle.deoxys_bc.specs.Cipher.{encipher};

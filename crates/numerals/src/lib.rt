@@ -1,4 +1,7 @@
 // A number as an argument spells it.
+
+#![tactic(auto)]
+
 ghost use Rattle.std.specs.Prelude.{◌≡◌, min};
 ghost use Rattle.numerals.specs.Numbers.{number_of};
 

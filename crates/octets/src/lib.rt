@@ -1,4 +1,7 @@
 // Blocks of sixteen bytes in a slice: read, written, XORed, padded.
+
+#![tactic(auto)]
+
 ghost use Rattle.std.specs.Prelude.{◌≡◌, ◌++◌, ◌+◌, ◌≤◌, ◌<◌, length, take, drop, replicate};
 ghost use Rattle.octets.specs.Octets.{◌⊕◌, padded, same};
 

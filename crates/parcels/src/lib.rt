@@ -1,4 +1,7 @@
 // A sealed file: the ciphertext, and then the tag.
+
+#![tactic(auto)]
+
 ghost use Rattle.std.specs.Prelude.{◌≡◌, ◌-◌, take, drop};
 ghost use Rattle.deoxys.specs.Entry.{Opening, opening};
 ghost use Rattle.parcels.specs.Parcels.{tag_at, cipher_in, tag_in};

@@ -1,4 +1,7 @@
 // Sealing Deoxys-I by pieces, each in place: the running state is a value, and every operation hands it back.
+
+#![tactic(auto)]
+
 ghost use Rattle.std.specs.Prelude.{◌≡◌, ◌+◌, ◌%◌, eqb, ltb, length};
 ghost use Rattle.octets.specs.Octets.{pick};
 ghost use Rattle.suites.specs.Suites.{limit};

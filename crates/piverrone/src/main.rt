@@ -2,6 +2,9 @@
 //
 // No program has an exit status here: `tools/piverrone` makes one of what is written. What was done is told on
 // standard output, and what was not on standard error. The file OUT is written only where the answer is 0.
+
+#![tactic(auto)]
+
 mod bundles;
 mod by_pieces;
 mod files;

@@ -1,4 +1,7 @@
 // A note as it is shown between quotes, by printable bytes alone.
+
+#![tactic(auto)]
+
 ghost use Rattle.std.specs.Prelude.{◌≡◌, [], ◌∷◌, ◌++◌, ◌+◌, ◌*◌, ◌/◌, ◌%◌, ◌≤◌, ◌<◌, length, take};
 ghost use Rattle.quoted.specs.Quoted.{digit, spelling, quoted};
 

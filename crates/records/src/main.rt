@@ -1,5 +1,8 @@
 // Replays the house record: what is written, what is read, and bundles, each call compared, and writes what it found. The lists are files of
 // `data/`.
+
+#![tactic(auto)]
+
 mod answers;
 mod reading;
 mod spelling;

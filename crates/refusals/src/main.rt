@@ -1,4 +1,7 @@
 // Replays refusals and limits through the library, compares every answer, and writes what it found. The lists are files of `data/`.
+
+#![tactic(auto)]
+
 mod lengths;
 
 use differences::pattern;

@@ -1,4 +1,7 @@
 // The risk tables of a sealing and of an opening: what each block cipher call is for, from the suite and the two lengths alone.
+
+#![tactic(auto)]
+
 ghost use Rattle.std.specs.Prelude.{◌≡◌, ◌+◌, ◌*◌, ◌<◌, ◌≤◌, length, get_or};
 ghost use Rattle.octets.specs.Octets.{pick, blocks_of};
 ghost use Rattle.risk.specs.Labels.{

@@ -1,4 +1,7 @@
 // The suites and the refusals that depend on lengths alone.
+
+#![tactic(auto)]
+
 ghost use Rattle.std.specs.Prelude.{◌≡◌};
 ghost use Rattle.suites.specs.Suites.{key_length, nonce_length, refusal};
 

@@ -1,4 +1,7 @@
 // The tweakey schedule: the crate's `src/deoxys_bc.rs`.
+
+#![tactic(auto)]
+
 ghost use Rattle.std.specs.Prelude.{◌≡◌, ◌⊎◌, ◌+◌, ◌≤◌, ◌<◌, length};
 ghost use Rattle.octets.specs.Octets.{◌⊕◌, table, each_byte};
 ghost use Rattle.tweakey.specs.Tweakey.{places, h, lfsr2, lfsr3, tk2, tk3, round_constant, constant_block, flat, expanded, round_key};

@@ -1,4 +1,7 @@
 // The tweaks of both modes, which the crate's `src/modes.rs` makes in place.
+
+#![tactic(auto)]
+
 ghost use Rattle.std.specs.Prelude.{◌≡◌, ◌∷◌, ◌<◌, length};
 ghost use Rattle.tweaks.specs.Tweaks.{numbered, nonce_tweak, keystream_tweak};
 

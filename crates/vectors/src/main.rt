@@ -1,4 +1,7 @@
 // Replays vectors through the library, compares every answer, and writes what it found. The lists are files of `data/`.
+
+#![tactic(auto)]
+
 mod vector;
 
 use differences::tally::Tally;

@@ -1,0 +1,16 @@
+-- `octets::read_block` meets its contract: the loop fills the block with what stands from the place on.
+-- Assumes nothing.
+use mathlib.Core.Path.{refl, ◌∙◌}
+use borrow.Author.Rules.{rules}
+use Rattle.octets.proofs.Parts.{part-table}
+use Rattle.octets.proofs.Tables.{filled_none, filled_more, filled_all}
+use Rattle.octets.proofs.read_block.Goals as goal
+
+pub loop-i-init : goal.loop-i-init
+loop-i-init c = filled_none refl
+
+pub loop-i-preserved : goal.loop-i-preserved
+loop-i-preserved c = filled_more _ c.loop-i.invariant (search rules) refl
+
+pub returns : goal.returns
+returns c = filled_all c.loop-i.invariant (search rules) ∙ part-table c.args.s.now c.args.at (search rules)
