@@ -1,0 +1,17 @@
+-- `tweakey::lfsr2` meets its contract: the loop fills the block.
+-- Assumes nothing.
+use mathlib.Core.Path.{refl}
+use borrow.Author.Rules.{rules}
+use Rattle.octets.specs.Octets.{each_byte}
+use Rattle.octets.proofs.Tables.{filled_none, filled_more, filled_all}
+use Rattle.tweakey.proofs.lfsr2.Goals as goal
+
+pub loop-i-init : goal.loop-i-init
+loop-i-init c = filled_none refl
+
+pub loop-i-preserved : goal.loop-i-preserved
+loop-i-preserved c = filled_more c.lfsr2_byte.result c.loop-i.invariant (search rules) c.lfsr2_byte.ensures
+
+pub returns : goal.returns
+unfolding each_byte
+returns c = filled_all c.loop-i.invariant (search rules)
