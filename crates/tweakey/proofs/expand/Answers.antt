@@ -8,7 +8,7 @@ use borrow.Author.Rules.{rules}
 use Rattle.octets.proofs.Tables.{byte, table_tested}
 use Rattle.octets.specs.Octets.{Block}
 use Rattle.field.specs.Field.{double}
-use Rattle.tweakey.specs.Tweakey.{places, tk3, tk2, round_constant}
+use Rattle.tweakey.specs.Tweakey.{places, tk3, tk2, round_constant, constant_block}
 use Rattle.tweakey.proofs.Flat.{flat_turn, flat-none}
 use Rattle.tweakey.proofs.Tweakeys.{tk3_step, tk2_step, key_part_length}
 use Rattle.tweakey.proofs.expand.Goals as goal
@@ -37,11 +37,11 @@ loop-i-preserved c =
     let second : Block a.second = record { size = search rules; bytes = record { at = λ i. byte (search rules) } } in (
       c.write_block.ensures
           ∙ flat_turn _ (λ j b. key_part_length j third second) l.i l.bytes c.xor_block-part.result (search rules) l.invariant.0
-          (rw (c.xor_block-part.ensures, c.constant_block_lem<?>.ensures, c.xor_block.ensures, l.invariant.1, l.invariant.2)),
+          (rw (c.xor_block-part.ensures, c.constant_block.ensures, c.xor_block.ensures, l.invariant.1, l.invariant.2)),
       rw (c.lfsr3-next3.ensures, c.h_substitution.ensures, l.invariant.1) (tk3_step l.i _),
       rw (c.lfsr2-next2.ensures, c.h_substitution-in-loop-i.ensures, l.invariant.2) (tk2_step l.i _),
       omega arith,
-      c.write_block.auto.0 ∙ l.invariant.4,
+      c.write_block.auto.s ∙ l.invariant.4,
     )
 
 pub returns : goal.returns

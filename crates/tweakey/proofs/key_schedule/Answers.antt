@@ -30,7 +30,7 @@ loop-i-preserved c =
           (rw (c.xor_block-key.ensures, c.read_block.ensures, l.invariant.1)),
       rw (c.h_substitution-next.ensures, l.invariant.1) (tweak_step l.i _),
       omega arith,
-      c.write_block.auto.0 ∙ l.invariant.3,
+      c.write_block.auto.s ∙ l.invariant.3,
     )
 
 pub returns : goal.returns
