@@ -5,11 +5,6 @@ use native.Mathlib.Omega.{arith}
 use borrow.Author.Rules.{rules}
 use Rattle.record.proofs.writer.lay.Goals as goal
 
-pub put_field-requires : goal.put_field-requires
-put_field-requires c =
-    let p = c.requires in
-    search (p, rules)
-
 pub returns : goal.returns
 returns c =
     let a = c.args in
@@ -20,7 +15,7 @@ returns c =
       note = a.note.now;
       cipher = a.cipher.now;
       tag = a.tag.now;
-    }) a.destination.now _ _ _ _ _ _ _ _ _ _ _ _ (omega (arith, c.requires.0)) c.row_bytes-row_number.ensures
+    }) a.destination.now _ _ _ _ _ _ _ _ _ _ _ _ (omega (arith, c.requires.tag_in_bounds)) c.row_bytes-row_number.ensures
     c.put_field-at.ensures.destination_after c.put_field-at.ensures.value c.put_field-at-2.ensures.destination_after c.put_field-at-2.ensures.value
     c.put_field-at-3.ensures.destination_after c.put_field-at-3.ensures.value c.put_field-at-4.ensures.destination_after c.put_field-at-4.ensures.value
     c.put_field-at-5.ensures.destination_after c.put_field-at-5.ensures.value c.put_field.ensures.destination_after
