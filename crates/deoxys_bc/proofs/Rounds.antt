@@ -48,7 +48,7 @@ module _ {k : Subkeys} {tweak : List ℕ} (parts : KeyParts k) (p : Block tweak)
   before_block : {s : List ℕ} → Block s → (n : ℕ) → n ≤ k.rounds → Block (before_rounds k tweak s n)
   unfolding before_rounds
   before_block q zero h = ⊕_block q (round_key_block 0 h)
-  before_block q (suc n) h = before_block (inv_round_block q (round_key_block (suc n) h)) n (omega arith)
+  before_block {s} q (suc n) h = before_block {s = inv_round s (round_key k tweak (suc n))} (inv_round_block q (round_key_block (suc n) h)) n (omega arith)
 
   before_after : {s : List ℕ} → Block s → (n : ℕ) → n ≤ k.rounds → before_rounds k tweak (after_rounds k tweak s n) n ≡ s
   unfolding after_rounds before_rounds
@@ -61,7 +61,7 @@ module _ {k : Subkeys} {tweak : List ℕ} (parts : KeyParts k) (p : Block tweak)
   unfolding after_rounds before_rounds
   after_before q zero h = block_back q (round_key_block 0 h)
   after_before {s} q (suc n) h =
-      ap (λ (t : List ℕ). round t (round_key k tweak (suc n))) (after_before (inv_round_block q (round_key_block (suc n) h)) n (omega arith))
+      ap (λ (t : List ℕ). round t (round_key k tweak (suc n))) (after_before {s = inv_round s (round_key k tweak (suc n))} (inv_round_block q (round_key_block (suc n) h)) n (omega arith))
       ∙ round-inv_round q (round_key_block (suc n) h)
 
   module _ {block : List ℕ} (q : Block block) where
