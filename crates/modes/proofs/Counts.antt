@@ -7,7 +7,9 @@ use native.Mathlib.Omega.{arith}
 use lib.ListN.{length, drop, length-drop}
 use Rattle.deoxys_bc.specs.declared.Count.{Count}
 use Rattle.tweakey.specs.declared.Subkeys.{Subkeys}
-use Rattle.modes.specs.Rows.{Row, blocks, partial_row, text_rows, auth_rows}
+use Rattle.octets.specs.Octets.{padded}
+use Rattle.tweaks.specs.Tweaks.{numbered}
+use Rattle.modes.specs.Rows.{Row, enciphered, blocks, partial_row, text_rows, auth_rows}
 use Rattle.modes.specs.declared.Tagged.{Tagged}
 
 pub partial_length : (call : List ℕ → Row) (s : List ℕ) → length s < 16 → length (partial_row call s) ≡ (length s + 15) / 16
@@ -19,7 +21,8 @@ text_length : (k : Subkeys) (full part : ℕ) (s : List ℕ) (n i : ℕ) → 16 
 unfolding text_rows
 text_length k full part s zero i h l =
     let d : length (drop (16 * i) s) ≡ length s - 16 * i = length-drop (16 * i) s in
-    let p : length (text_rows k full part s 0 i) ≡ (length (drop (16 * i) s) + 15) / 16 = partial_length _ (drop (16 * i) s) (omega arith) in
+    let p : length (text_rows k full part s 0 i) ≡ (length (drop (16 * i) s) + 15) / 16 =
+        partial_length (λ p. enciphered k (numbered part i) (padded p)) (drop (16 * i) s) (omega arith) in
     omega arith
 text_length k full part s (suc n) i h l =
     let p = text_length k full part s n (i + 1) (omega arith) (omega arith) in
