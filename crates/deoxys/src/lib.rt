@@ -9,7 +9,7 @@ ghost use Rattle.deoxys.specs.Entry.{sealed, opened, SealAllows, OpenAllows};
 
 // What sealing answers: a number of document 01, the tag, and the block cipher calls made.
 #[repr(C)]
-#[derive(Drop)]
+#[derive(Clone, Copy)]
 pub struct Sealed {
     pub number: u8,
     pub tag: [u8; 16],
@@ -18,7 +18,7 @@ pub struct Sealed {
 
 // What opening answers.
 #[repr(C)]
-#[derive(Drop)]
+#[derive(Clone, Copy)]
 pub struct Opened {
     pub number: u8,
     pub rows: usize,

@@ -9,7 +9,7 @@ use tweakey::Subkeys;
 
 // The block cipher calls made so far.
 #[repr(C)]
-#[derive(Drop)]
+#[derive(Clone, Copy)]
 pub struct Count {
     pub rows: usize,
 }
@@ -27,7 +27,7 @@ impl Count {
 }
 
 // What a call gives: the block, and the count one higher.
-#[derive(Drop)]
+#[derive(Clone, Copy)]
 pub struct Called {
     pub block: [u8; 16],
     pub count: Count,

@@ -19,7 +19,7 @@ const OUT_OF_RANGE: u8 = 13;
 const HEAD_BYTES: usize = 3;
 
 // A field that was read: a number, and how many bytes it has after its head.
-#[derive(Drop)]
+#[derive(Clone, Copy)]
 pub struct Part {
     pub number: u8,
     pub bytes: usize,

@@ -16,14 +16,14 @@ const TWEAK_AD: u8 = 0x20;
 const TWEAK_AD_LAST: u8 = 0x60;
 
 // A sum of blocks, and the calls made so far.
-#[derive(Drop)]
+#[derive(Clone, Copy)]
 pub struct Tally {
     pub sum: [u8; 16],
     pub count: Count,
 }
 
 // A tag, and the calls made.
-#[derive(Drop)]
+#[derive(Clone, Copy)]
 pub struct Tagged {
     pub tag: [u8; 16],
     pub count: Count,

@@ -9,7 +9,7 @@ ghost use Rattle.numerals.specs.Numbers.{number_of};
 const MOST: usize = 1048577;
 
 // Whether a text is a number, and which.
-#[derive(Drop)]
+#[derive(Clone, Copy)]
 pub struct Number {
     pub valid: bool,
     pub value: usize,

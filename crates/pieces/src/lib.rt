@@ -29,7 +29,7 @@ const MOST_ROWS: usize = 131072;
 // What has been taken so far comes to: begin's number, the stage, the expanded key, the nonce, Auth, the checksum, the bytes taken and the
 // block cipher calls made. It holds key material.
 #[repr(C)]
-#[derive(Drop)]
+#[derive(Clone, Copy)]
 pub struct Pieces {
     pub number: u8,
     pub stage: u8,
@@ -43,7 +43,7 @@ pub struct Pieces {
 
 // What taking a piece answers: the state, and a number.
 #[repr(C)]
-#[derive(Drop)]
+#[derive(Clone, Copy)]
 pub struct Taken {
     pub pieces: Pieces,
     pub number: u8,
@@ -51,7 +51,7 @@ pub struct Taken {
 
 // What the finish answers: the state, a number, the tag, and the block cipher calls made since the begin.
 #[repr(C)]
-#[derive(Drop)]
+#[derive(Clone, Copy)]
 pub struct Finished {
     pub pieces: Pieces,
     pub number: u8,

@@ -16,7 +16,7 @@ const FIRST_PRINTABLE: u8 = 0x20;
 const LAST_PRINTABLE: u8 = 0x7e;
 
 // How a byte is spelt: by the first `length` of these.
-#[derive(Drop)]
+#[derive(Clone, Copy)]
 struct Shown {
     bytes: [u8; 4],
     length: usize,

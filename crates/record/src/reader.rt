@@ -13,7 +13,7 @@ pub const MOST_RECORDS: usize = 64;
 // What the reader answers: a number, suite and row, where each text lies in the bytes given and how long it is (the tag has 16 bytes), and
 // the record's own length. Refused, all but the number is zero.
 #[repr(C)]
-#[derive(Drop)]
+#[derive(Clone, Copy)]
 pub struct Record {
     pub number: u8,
     pub suite: u8,
@@ -30,14 +30,14 @@ pub struct Record {
 
 // What the reader of a bundle answers: a number, and how many records there are.
 #[repr(C)]
-#[derive(Drop)]
+#[derive(Clone, Copy)]
 pub struct Bundle {
     pub number: u8,
     pub records: usize,
 }
 
 // The fields from the nonce on: a number, and how long the note and the ciphertext are.
-#[derive(Drop)]
+#[derive(Clone, Copy)]
 struct Texts {
     number: u8,
     note: usize,

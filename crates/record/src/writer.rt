@@ -17,7 +17,7 @@ const ROW_BYTES: usize = 2;
 
 // What the writer answers: a number, and how many bytes it laid at the start of the destination.
 #[repr(C)]
-#[derive(Drop)]
+#[derive(Clone, Copy)]
 pub struct Written {
     pub number: u8,
     pub length: usize,

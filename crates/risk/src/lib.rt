@@ -27,7 +27,7 @@ pub const KEYSTREAM: u8 = 3;
 pub const NO_ROW: u8 = 4;
 
 // What a row is for, its block number, and whether its block of text is partial.
-#[derive(Drop)]
+#[derive(Clone, Copy)]
 pub struct Label {
     pub kind: u8,
     pub number: usize,
