@@ -159,7 +159,7 @@ fn digit(byte: u8) -> u8
 }
 
 // The bytes that a line's fields have spelled so far, and whether each field was in order.
-#[derive(Drop)]
+#[derive(Clone, Copy)]
 pub struct Spelled {
     pub bytes: [u8; 256],
     pub length: usize,
