@@ -17,7 +17,7 @@ const GUARD: u8 = 0xa5;
 const ROOM: usize = 128;
 
 // Three fields one after the other, and where each ends.
-#[derive(Drop)]
+#[derive(Clone, Copy)]
 struct Fields {
     bytes: [u8; BYTES],
     one: usize,
@@ -59,7 +59,8 @@ fn part(s: &[u8], from: usize, to: usize) -> &[u8]
 // A room with the text between two places, and guards around it.
 fn laid_out(s: [u8; BYTES], from: usize, to: usize) -> [u8; ROOM] {
     let mut room = [GUARD; ROOM];
-    bytes::copy(part(&s, from, to), &mut room[steps::BEFORE..]);
+    let text = part(&s, from, to);
+    room[steps::BEFORE..steps::BEFORE + text.len()].copy_from_slice(text);
     room
 }
 
@@ -68,7 +69,7 @@ fn tag_of(s: [u8; BYTES], from: usize, to: usize) -> [u8; 16] {
     let mut tag = [0u8; 16];
     let text = part(&s, from, to);
     if text.len() == 16 {
-        bytes::copy(text, &mut tag);
+        tag.copy_from_slice(text);
     }
     tag
 }

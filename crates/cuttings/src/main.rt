@@ -11,6 +11,14 @@ mod steps;
 use differences::tally::Tally;
 use lists::text;
 use replay::{files, report};
+use std::io;
+use std::rt::Files;
+
+// No list is as long.
+const ROOM: usize = 65536;
+
+// The calls in the order of their numbers.
+const CALLS: [&str; 3] = ["beginning", "taking a piece", "finishing"];
 
 // The field with a line's first script, by the line's first word; no line reaches so far where the word is neither.
 fn first_script(text: &[u8]) -> usize {
@@ -71,18 +79,18 @@ fn lines(text: &[u8]) -> Tally {
 }
 
 // Replays the list in a file and writes a line on it.
-fn list(name: &[u8]) -> Tally {
-    let mut text = io::large_buffer();
-    let n = files::read(name, &mut text);
-    let calls = b"beginning\ntaking a piece\nfinishing";
-    report::list(name, calls, lines(&text[..n]))
+fn list(rt: &(impl Files + Print + Eprint), name: &str) -> io::Result<Tally> {
+    let mut text = [0u8; ROOM];
+    let n = files::read(rt, name, &mut text)?;
+    report::list(rt, name, &CALLS, lines(&text[..n]))
 }
 
 // The spoilt list shows that a difference is told; it is no part of the total.
-fn main() {
-    list(b"spoilt.txt");
-    let mut total = list(b"cuttings.txt");
-    total = total.and(list(b"stages.txt"));
-    total = total.and(list(b"limits.txt"));
-    report::total(total);
+fn main(rt: HostRuntime) -> io::Result<()> {
+    list(&rt, "spoilt.txt")?;
+    let mut total = list(&rt, "cuttings.txt")?;
+    total = total.and(list(&rt, "stages.txt")?);
+    total = total.and(list(&rt, "limits.txt")?);
+    report::total(&rt, total)?;
+    Ok(())
 }

@@ -13,7 +13,7 @@ pub const NO_STEP: usize = 0xfffffffe;
 // More bytes are not taken by a script.
 const MOST: usize = 2097152;
 
-#[derive(Drop)]
+#[derive(Clone, Copy)]
 struct Step {
     size: usize,
     number: u8,
@@ -21,7 +21,7 @@ struct Step {
 }
 
 // The steps' sizes and numbers, how many steps there are, and the bytes of the pieces that are to be taken.
-#[derive(Drop)]
+#[derive(Clone, Copy)]
 pub struct Script {
     pub sizes: [usize; STEPS],
     pub numbers: [u8; STEPS],
@@ -52,7 +52,7 @@ fn number_of(word: &[u8], colon: usize) -> Number {
 }
 
 fn step_of(word: &[u8]) -> Step {
-    let colon = bytes::scan::find(word, 0, word.len(), b':');
+    let colon = text::find(word, b':', 0);
     let size = size_of(&word[0..colon]);
     let number = number_of(word, colon);
     Step {
@@ -118,7 +118,7 @@ pub fn read(field: &[u8]) -> Script {
     let mut s = none();
     let mut at = 0;
     while at <= field.len() {
-        let end = bytes::scan::find(field, at, field.len(), b',');
+        let end = text::find(field, b',', at);
         s = with_word(s, &field[at..end]);
         at = end + 1;
     }

@@ -16,7 +16,7 @@ const NONCE: usize = 40;
 // Above the greatest total, with bytes that no call may touch.
 const ROOM: usize = 1049600;
 
-#[derive(Drop)]
+#[derive(Clone, Copy)]
 struct Attempt {
     suite: usize,
     key: usize,

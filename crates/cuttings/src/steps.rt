@@ -16,7 +16,7 @@ const FINISHING: usize = 2;
 pub const BEFORE: usize = 16;
 
 // The line of the case, and the tag and the rows of the single call.
-#[derive(Drop)]
+#[derive(Clone, Copy)]
 pub struct Wanted {
     pub line: usize,
     pub tag: [u8; 16],
@@ -24,7 +24,7 @@ pub struct Wanted {
 }
 
 // The state, where in the room the next piece starts, and the count.
-#[derive(Drop)]
+#[derive(Clone, Copy)]
 pub struct Run {
     pub state: Pieces,
     pub at: usize,

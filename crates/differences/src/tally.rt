@@ -4,7 +4,7 @@ ghost use Rattle.differences.specs.Tally.{plus, is_nothing, first_difference, no
 
 // What a call answered, and whether its tag (an opening gives none), its buffer, with the bytes around it, and its inputs are then as they
 // should be.
-#[derive(Drop)]
+#[derive(Clone, Copy)]
 pub struct Seen {
     pub number: u8,
     pub rows: usize,
@@ -14,7 +14,7 @@ pub struct Seen {
 }
 
 // What differs.
-#[derive(Drop)]
+#[derive(Clone, Copy)]
 pub enum What {
     Nothing,
     Number,
@@ -51,7 +51,7 @@ impl Seen {
 
 // Cases and calls so far, how many differ, and of the first that does the line, the call and what differed. A call is a number, counted
 // from zero, in the program's own list of its calls.
-#[derive(Drop)]
+#[derive(Clone, Copy)]
 pub struct Tally {
     pub cases: usize,
     pub calls: usize,

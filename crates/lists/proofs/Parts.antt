@@ -9,9 +9,8 @@ use native.Mathlib.Omega.{arith}
 use lib.Dec.{eqb}
 use lib.ListN.{take, drop}
 use borrow.Author.Tests.{eqb-true}
-use Rattle.bytes.specs.Bytes.{index_of, index_after}
 use Rattle.octets.specs.Octets.{pick}
-use Rattle.lists.specs.Text.{part_of, count_of, line_of, lines_of}
+use Rattle.lists.specs.Text.{index_after, index_of, part_of, count_of, line_of, lines_of}
 
 -- f i, f (i + 1), .., n more of them, with b between two
 abbrev pub joined : (ℕ → List ℕ) → ℕ → ℕ → ℕ → List ℕ

@@ -8,36 +8,46 @@ use native.Mathlib.Numerals.{add-one}
 use native.Mathlib.Omega.{arith}
 use lib.Dec.{eqb, leb, ltb}
 use lib.ListN.{length, take, drop, get_or, set, length-take, drop_of_length-le, take-append-drop}
-use lib.Seq.{take-length, take-suc, take-take, take-suc-set, take-set-le, length-take-le, drop_at, drop-cons, drop-drop}
+use lib.Seq.{take-suc, take-take, take-suc-set, take-set-le, length-take-le, drop_at, drop-cons, drop-drop}
 use borrow.Author.Tests.{lt-ltb, le-ltb, leb-true, eq-eqb, ne_eqb}
-use Rattle.bytes.specs.Bytes.{index_of, slice}
 use Rattle.io.specs.Digits.{last_digits, hex_digit_ascii}
 use Rattle.octets.specs.Octets.{pick}
 use Rattle.lists.specs.declared.text.Number.{Number}
 use Rattle.lists.specs.declared.text.Spelled.{Spelled}
-use Rattle.lists.specs.Text.{part_of, count_of, no_number, with_digit, number_from, number_of, hexadecimal, spelling, Adds}
+use Rattle.lists.specs.Text.{index_after, index_of, slice, part_of, count_of, no_number, with_digit, number_from, number_of, hexadecimal, spelling, Adds}
 
 -- ---- parts
 
-rest : (s : List ℕ) (from : ℕ) → slice from (length s) s ≡ drop from s
-unfolding slice
-rest s from = rw take-length
+-- a turn of the search for a byte: it stands here, it does not, and no byte is left
+module _ (b : ℕ) (s : List ℕ) (i : ℕ) (h : i < length s) where
+  index_next : index_of b (drop i s) ≡ index_after (eqb (get_or s i 0) b) (index_of b (drop (i + 1) s))
+  unfolding index_of
+  index_next = rw (add-one, drop-cons s i 0)
 
-module _ (b : ℕ) (s : List ℕ) (from end : ℕ) (found : end ≡ from + index_of b (slice from (length s) s)) where
-  is_at : end ≡ from + index_of b (drop from s)
-  is_at = rw rest at found
+  pub stands_here : get_or s i 0 ≡ b → index_of b (drop i s) ≡ 0
+  unfolding index_after
+  stands_here e = rw (index_next, eq-eqb (get_or s i 0) b e)
 
+  pub stands_later : (get_or s i 0 ≡ b → ⊥) → index_of b (drop i s) ≡ suc (index_of b (drop (i + 1) s))
+  unfolding index_after
+  stands_later e = rw (index_next, ne_eqb (get_or s i 0) b e)
+
+pub stands_nowhere : (b : ℕ) (s : List ℕ) (i : ℕ) → length s ≤ i → index_of b (drop i s) ≡ 0
+unfolding index_of
+stands_nowhere b s i h = rw (drop_of_length-le s h)
+
+module _ (b : ℕ) (s : List ℕ) (from end : ℕ) (found : end ≡ from + index_of b (drop from s)) where
   pub next-part : end < length s → drop (end + 1) s ≡ drop (suc (index_of b (drop from s))) (drop from s)
-  next-part h = let e : end + 1 ≡ from + suc (index_of b (drop from s)) = omega (arith, is_at) in rw (drop-drop, e)
+  next-part h = let e : end + 1 ≡ from + suc (index_of b (drop from s)) = omega (arith, found) in rw (drop-drop, e)
 
   pub no_part : length s ≤ end → drop end s ≡ drop (suc (index_of b (drop from s))) (drop from s)
   no_part h =
-      let l : length s ≤ from + suc (index_of b (drop from s)) = omega (arith, is_at) in
+      let l : length s ≤ from + suc (index_of b (drop from s)) = omega (arith, found) in
       rw (drop-drop, drop_of_length-le s h, drop_of_length-le s l)
 
   pub this_part : take (end - from) (drop from s) ≡ part_of b 0 (drop from s)
   unfolding part_of
-  this_part = let e : end - from ≡ index_of b (drop from s) = omega (arith, is_at) in rw e
+  this_part = let e : end - from ≡ index_of b (drop from s) = omega (arith, found) in rw e
 
 pub parts_less : (b : ℕ) (s : List ℕ) (k n : ℕ) → n < k → part_of b (k - n) s ≡ part_of b (k - (n + 1)) (drop (suc (index_of b s)) s)
 unfolding part_of

@@ -1,10 +1,22 @@
 -- Lines of a text, fields of a line, and the numbers and bytes that a field spells. Assumes nothing.
 use Rattle.std.specs.Prelude.{◌≡◌, Bool, true, false, not, List, [], ◌∷◌, ℕ, zero, suc, ◌+◌, ◌-◌, ◌*◌, ◌/◌, ◌%◌, ◌≤◌, eqb, ltb, leb, length, take, drop, get_or}
-use Rattle.bytes.specs.Bytes.{index_of, slice}
 use Rattle.io.specs.Digits.{hex_digit_ascii}
 use Rattle.octets.specs.Octets.{pick}
 use Rattle.lists.specs.declared.text.Number.{Number}
 use Rattle.lists.specs.declared.text.Spelled.{Spelled}
+
+-- how far into a text a byte first stands, or the text's length
+unfoldable pub index_after : Bool → ℕ → ℕ
+index_after true n = 0
+index_after false n = suc n
+
+unfoldable pub index_of : ℕ → List ℕ → ℕ
+index_of b [] = 0
+index_of b (x ∷ s) = index_after (eqb x b) (index_of b s)
+
+-- the bytes from one place up to another
+unfoldable pub slice : ℕ → ℕ → List ℕ → List ℕ
+slice from to s = drop from (take to s)
 
 -- part k of a text, counted from zero, with a separator between two parts; empty past the last
 unfoldable pub part_of : ℕ → ℕ → List ℕ → List ℕ

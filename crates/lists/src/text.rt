@@ -1,8 +1,7 @@
 // The lines of a text, the fields of a line, and the numbers and bytes that fields spell.
-ghost use Rattle.std.specs.Prelude.{◌≡◌, true, false, [], ◌∷◌, suc, ◌≤◌, ◌<◌, ltb, length, drop};
-ghost use Rattle.bytes.specs.Bytes.{index_of};
+ghost use Rattle.std.specs.Prelude.{◌≡◌, true, false, [], ◌∷◌, suc, ◌+◌, ◌≤◌, ◌<◌, ltb, length, drop};
 ghost use Rattle.io.specs.Digits.{hex_digit_ascii};
-ghost use Rattle.lists.specs.Text.{part_of, count_of, line_of, lines_of, field_of, is_case, with_digit, number_of, hexadecimal, spelling, Fresh, Adds};
+ghost use Rattle.lists.specs.Text.{index_of, part_of, count_of, line_of, lines_of, field_of, is_case, with_digit, number_of, hexadecimal, spelling, Fresh, Adds};
 
 const NO_DIGIT: u8 = 16;
 
@@ -11,13 +10,28 @@ const MOST: usize = 99999999;
 
 const ROOM: usize = 256;
 
+// Where a byte first stands in a text from a place on, or the text's end.
+pub fn find(text: &[u8], byte: u8, from: usize) -> usize
+    requires { from ≤ length text.now }
+    ensures value { result ≡ from + index_of byte (drop from text.now) }
+    ensures lower_bound { from ≤ result }
+    ensures upper_bound { result ≤ length text.now }
+{
+    for i in from..text.len() {
+        if text[i] == byte {
+            return i;
+        }
+    }
+    text.len()
+}
+
 // Where the part after the one at `from` starts, or the text's end.
 fn next(text: &[u8], separator: u8, from: usize) -> usize
     requires { from ≤ length text.now }
     ensures upper_bound { result ≤ length text.now }
     ensures text_value { drop result text.now ≡ drop (suc (index_of separator (drop from text.now))) (drop from text.now) }
 {
-    let end = bytes::scan::find(text, from, text.len(), separator);
+    let end = find(text, separator, from);
     if end < text.len() { end + 1 } else { end }
 }
 
@@ -29,7 +43,7 @@ fn part(text: &[u8], separator: u8, k: usize) -> &[u8]
     for _ in 0..k {
         from = next(text, separator, from);
     }
-    let to = bytes::scan::find(text, from, text.len(), separator);
+    let to = find(text, separator, from);
     &text[from..to]
 }
 
@@ -86,7 +100,7 @@ pub fn ends(line: &[u8], fields: usize) -> bool
 }
 
 // A number read so far, and whether every byte of it was a digit.
-#[derive(Drop)]
+#[derive(Clone, Copy)]
 pub struct Number {
     pub value: usize,
     pub good: bool,
@@ -145,7 +159,7 @@ fn digit(byte: u8) -> u8
 }
 
 // The bytes that a line's fields have spelled so far, and whether each field was in order.
-#[derive(Drop)]
+#[derive(Clone, Copy)]
 pub struct Spelled {
     pub bytes: [u8; 256],
     pub length: usize,

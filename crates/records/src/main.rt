@@ -11,6 +11,19 @@ mod writing;
 use differences::tally::Tally;
 use lists::text;
 use replay::{files, report};
+use std::io;
+use std::rt::Files;
+
+// No list is as long.
+const ROOM: usize = 65536;
+
+// The calls in the order of their numbers.
+const CALLS: [&str; 4] = [
+    "writing",
+    "writing row data",
+    "reading",
+    "reading a bundle",
+];
 
 // The case on a line: its first word says what is called.
 fn replayed(text: &[u8], line: usize, tally: Tally) -> Tally {
@@ -48,19 +61,19 @@ fn lines(text: &[u8]) -> Tally {
 }
 
 // Replays the list in a file and writes a line on it.
-fn list(name: &[u8]) -> Tally {
-    let mut text = io::large_buffer();
-    let n = files::read(name, &mut text);
-    let calls = b"writing\nwriting row data\nreading\nreading a bundle";
-    report::list(name, calls, lines(&text[..n]))
+fn list(rt: &(impl Files + Print + Eprint), name: &str) -> io::Result<Tally> {
+    let mut text = [0u8; ROOM];
+    let n = files::read(rt, name, &mut text)?;
+    report::list(rt, name, &CALLS, lines(&text[..n]))
 }
 
 // The spoilt list shows that a difference is told; it is no part of the total.
-fn main() {
-    list(b"spoilt.txt");
-    let mut total = list(b"written.txt");
-    total = total.and(list(b"read.txt"));
-    total = total.and(list(b"damaged.txt"));
-    total = total.and(list(b"bundles.txt"));
-    report::total(total);
+fn main(rt: HostRuntime) -> io::Result<()> {
+    list(&rt, "spoilt.txt")?;
+    let mut total = list(&rt, "written.txt")?;
+    total = total.and(list(&rt, "read.txt")?);
+    total = total.and(list(&rt, "damaged.txt")?);
+    total = total.and(list(&rt, "bundles.txt")?);
+    report::total(&rt, total)?;
+    Ok(())
 }

@@ -67,7 +67,7 @@ fn put(s: Spelled, room: &mut [u8], at: usize) -> usize {
     if s.good {
         if at <= room.len() {
             if part.len() <= room.len() - at {
-                bytes::copy(part, &mut room[at..]);
+                room[at..at + part.len()].copy_from_slice(part);
                 return at + part.len();
             }
         }
@@ -92,7 +92,7 @@ pub fn laid(field: &[u8], room: &mut [u8], from: usize) -> usize {
     let mut to = from;
     let mut at = 0;
     while at <= field.len() {
-        let end = bytes::scan::find(field, at, field.len(), b'+');
+        let end = text::find(field, b'+', at);
         to = part(&field[at..end], room, to);
         at = end + 1;
     }

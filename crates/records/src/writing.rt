@@ -22,7 +22,7 @@ const ROOM: usize = 5300;
 const FIRST: usize = 9;
 
 // The texts one after the other, and where each ends.
-#[derive(Drop)]
+#[derive(Clone, Copy)]
 struct Texts {
     bytes: [u8; ROOM],
     nonce: usize,

@@ -20,7 +20,7 @@ const TAG: usize = 64;
 const WRONG_TAG: u8 = 7;
 
 // A suite, lengths, and the number and the rows that are wanted.
-#[derive(Drop)]
+#[derive(Clone, Copy)]
 struct Attempt {
     suite: u8,
     key: usize,

@@ -8,9 +8,17 @@ use differences::pattern;
 use differences::tally::Tally;
 use lists::text;
 use replay::{files, report};
+use std::io;
+use std::rt::Files;
 
 // The greatest length that is not refused, one byte more, and bytes that no call may touch.
 const ROOM: usize = 1048592;
+
+// No list is as long.
+const LIST: usize = 65536;
+
+// The calls in the order of their numbers.
+const CALLS: [&str; 2] = ["sealing", "opening"];
 
 // One line more, if it is a case.
 fn line(text: &[u8], number: usize, tally: Tally, data: &[u8], buffer: &mut [u8]) -> Tally {
@@ -30,10 +38,15 @@ fn lines(text: &[u8], data: &[u8], buffer: &mut [u8]) -> Tally {
 }
 
 // Replays the list in a file and writes a line on it.
-fn list(name: &[u8], data: &[u8; ROOM], buffer: &mut [u8; ROOM]) -> Tally {
-    let mut text = io::large_buffer();
-    let n = files::read(name, &mut text);
-    report::list(name, b"sealing\nopening", lines(&text[..n], data, buffer))
+fn list(
+    rt: &(impl Files + Print + Eprint),
+    name: &str,
+    data: &[u8; ROOM],
+    buffer: &mut [u8; ROOM],
+) -> io::Result<Tally> {
+    let mut text = [0u8; LIST];
+    let n = files::read(rt, name, &mut text)?;
+    report::list(rt, name, &CALLS, lines(&text[..n], data, buffer))
 }
 
 fn fill(data: &mut [u8; ROOM]) {
@@ -41,12 +54,13 @@ fn fill(data: &mut [u8; ROOM]) {
 }
 
 // The spoilt list shows that a difference is told; it is no part of the total.
-fn main() {
+fn main(rt: HostRuntime) -> io::Result<()> {
     let mut data = [0u8; ROOM];
     let mut buffer = [0u8; ROOM];
     fill(&mut data);
-    list(b"spoilt.txt", &data, &mut buffer);
-    let refusals = list(b"refusals.txt", &data, &mut buffer);
-    let limits = list(b"limits.txt", &data, &mut buffer);
-    report::total(refusals.and(limits));
+    list(&rt, "spoilt.txt", &data, &mut buffer)?;
+    let refusals = list(&rt, "refusals.txt", &data, &mut buffer)?;
+    let limits = list(&rt, "limits.txt", &data, &mut buffer)?;
+    report::total(&rt, refusals.and(limits))?;
+    Ok(())
 }

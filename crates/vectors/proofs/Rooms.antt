@@ -2,10 +2,8 @@
 use mathlib.Core.Path.{◌≡◌, ◌∙◌}
 use mathlib.Core.List.{List, [], ◌++◌, append-nil}
 use Prim.Native.Nat.{ℕ, ◌-◌}
-use lib.ListN.{length, take, drop, replicate}
-use lib.Seq.{take-length}
+use lib.ListN.{length, drop, replicate}
 use Rattle.octets.proofs.Parts.{drop_zeros}
 
-pub laid : (text last : List ℕ) → last ≡ take (length text) text ++ drop (length text) (replicate 72 165)
-    → last ++ [] ≡ text ++ replicate (72 - length text) 165
-laid text last e = append-nil last ∙ e ∙ rw (take-length, drop_zeros)
+pub laid : (text last : List ℕ) → last ≡ text ++ drop (length text) (replicate 72 165) → last ++ [] ≡ text ++ replicate (72 - length text) 165
+laid text last e = append-nil last ∙ e ∙ rw drop_zeros

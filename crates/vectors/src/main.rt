@@ -7,6 +7,22 @@ mod vector;
 use differences::tally::Tally;
 use lists::text;
 use replay::{files, report};
+use std::io;
+use std::rt::Files;
+
+// No list is as long.
+const ROOM: usize = 65536;
+
+// The calls in the order of their numbers.
+const CALLS: [&str; 7] = [
+    "sealing",
+    "opening",
+    "opening with a changed key",
+    "opening with a changed nonce",
+    "opening with a changed data",
+    "opening with a changed ciphertext",
+    "opening with a changed tag",
+];
 
 // One line more, if it is a case.
 fn line(text: &[u8], number: usize, tally: Tally) -> Tally {
@@ -26,24 +42,18 @@ fn lines(text: &[u8]) -> Tally {
 }
 
 // Replays the list in a file and writes a line on it.
-fn list(name: &[u8]) -> Tally {
-    let mut text = io::large_buffer();
-    let n = files::read(name, &mut text);
-    let calls = b"sealing
-opening
-opening with a changed key
-opening with a changed nonce
-opening with a changed data
-opening with a changed ciphertext
-opening with a changed tag";
-    report::list(name, calls, lines(&text[..n]))
+fn list(rt: &(impl Files + Print + Eprint), name: &str) -> io::Result<Tally> {
+    let mut text = [0u8; ROOM];
+    let n = files::read(rt, name, &mut text)?;
+    report::list(rt, name, &CALLS, lines(&text[..n]))
 }
 
 // The spoilt list shows that a difference is told; it is no part of the total.
-fn main() {
-    list(b"spoilt.txt");
-    let mut total = list(b"published.txt");
-    total = total.and(list(b"crate.txt"));
-    total = total.and(list(b"lengths.txt"));
-    report::total(total);
+fn main(rt: HostRuntime) -> io::Result<()> {
+    list(&rt, "spoilt.txt")?;
+    let mut total = list(&rt, "published.txt")?;
+    total = total.and(list(&rt, "crate.txt")?);
+    total = total.and(list(&rt, "lengths.txt")?);
+    report::total(&rt, total)?;
+    Ok(())
 }

@@ -1,5 +1,5 @@
 // Vectors: each is sealed, opened, and opened with one bit changed in each part that is not empty.
-ghost use Rattle.std.specs.Prelude.{◌≡◌, ◌++◌, ◌-◌, ◌≤◌, ◌<◌, length, replicate};
+ghost use Rattle.std.specs.Prelude.{◌≡◌, ◌++◌, ◌-◌, ◌≤◌, ◌<◌, length, drop, replicate};
 
 use differences::tally::{Seen, Tally, What};
 use lists::text;
@@ -43,7 +43,7 @@ const CHANGED: usize = 2;
 const INPUTS: usize = 5;
 
 // A vector without its bytes: the suite, where each part starts and the last ends, and the number of rows.
-#[derive(Drop)]
+#[derive(Clone, Copy)]
 struct Vector {
     suite: u8,
     cuts: [usize; 7],
@@ -51,7 +51,7 @@ struct Vector {
 }
 
 // A vector with its bytes, the parts one after the other.
-#[derive(Drop)]
+#[derive(Clone, Copy)]
 struct Case {
     vector: Vector,
     bytes: [u8; BYTES],
@@ -59,7 +59,7 @@ struct Case {
 }
 
 // The six parts of a line, one after the other, and where each starts and the last ends.
-#[derive(Drop)]
+#[derive(Clone, Copy)]
 struct Parts {
     cuts: [usize; 7],
     bytes: [u8; BYTES],
@@ -118,14 +118,22 @@ fn part<'a>(s: &'a [u8], cuts: &[usize; 7], k: usize) -> &'a [u8]
     &s[..0]
 }
 
+// Lays the text at the start of the room, which keeps its other bytes.
+fn put(text: &[u8], room: &mut [u8])
+    requires { length text.now ≤ length room.old }
+    ensures { room.new ≡ text.now ++ drop (length text.now) room.old }
+{
+    room[..text.len()].copy_from_slice(text);
+}
+
 // A buffer with this text, and guards around it.
 fn laid_out(text: &[u8]) -> [u8; ROOM]
     requires { length text.now ≤ 64 }
-    ensures value { 80 ≡ length result }
-    ensures value_2 { result ≡ replicate 8 165 ++ (text.now ++ replicate (72 - length text.now) 165) }
+    ensures len { 80 ≡ length result }
+    ensures value { result ≡ replicate 8 165 ++ (text.now ++ replicate (72 - length text.now) 165) }
 {
     let mut room = [GUARD; ROOM];
-    bytes::copy(text, &mut room[BEFORE..]);
+    put(text, &mut room[BEFORE..]);
     room
 }
 
