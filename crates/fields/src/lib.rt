@@ -121,8 +121,8 @@ pub fn put(destination: &mut [u8], at: usize, body: &[u8]) -> usize
 
 // A field laid at a place; where the next one goes.
 pub fn put_field(destination: &mut [u8], at: usize, tag: u8, body: &[u8]) -> usize
-    requires body_in_bounds { at + 3 + length body.now ≤ length destination.old }
-    requires body_len_bound { length body.now < 65536 }
+    requires room { at + 3 + length body.now ≤ length destination.old }
+    requires in_two_bytes { length body.now < 65536 }
     ensures value { result ≡ at + 3 + length body.now }
     ensures destination_after { destination.new ≡ laid_at at (field tag body.now) destination.old }
 {

@@ -77,8 +77,8 @@ fn lay(
     tag: &[u8],
     destination: &mut [u8],
 )
-    requires tag_in_bounds { 21 + length nonce.now + length note.now + length cipher.now + length tag.now ≤ length destination.old }
-    requires nonce_len_bound { (length nonce.now < 65536) × (length note.now < 65536) × (length cipher.now < 65536) × (length tag.now < 65536) }
+    requires room { 21 + length nonce.now + length note.now + length cipher.now + length tag.now ≤ length destination.old }
+    requires in_two_bytes { (length nonce.now < 65536) × (length note.now < 65536) × (length cipher.now < 65536) × (length tag.now < 65536) }
     ensures { destination.new ≡ laid_at 0 (written (record {
       suite = suite;
       row = row;

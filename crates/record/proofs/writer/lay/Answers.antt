@@ -14,7 +14,7 @@ returns c =
       note = a.note.now;
       cipher = a.cipher.now;
       tag = a.tag.now;
-    }) a.destination.now _ _ _ _ _ _ _ _ _ _ _ _ (omega (arith, c.requires.tag_in_bounds)) c.row_bytes-row_number.ensures
+    }) a.destination.now _ _ _ _ _ _ _ _ _ _ _ _ (omega (arith, c.requires.room)) c.row_bytes-row_number.ensures
     c.put_field-at.ensures.destination_after c.put_field-at.ensures.value c.put_field-at-2.ensures.destination_after c.put_field-at-2.ensures.value
     c.put_field-at-3.ensures.destination_after c.put_field-at-3.ensures.value c.put_field-at-4.ensures.destination_after c.put_field-at-4.ensures.value
     c.put_field-at-5.ensures.destination_after c.put_field-at-5.ensures.value c.put_field.ensures.destination_after
