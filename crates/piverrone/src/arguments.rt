@@ -19,6 +19,6 @@ fn is_given(rt: &impl Env, i: usize) -> bool {
 }
 
 // Whether there are so many arguments, the program's name among them.
-pub fn are(rt: &impl Env, count: usize) -> bool {
+pub fn is_count(rt: &impl Env, count: usize) -> bool {
     !is_given(rt, count) && (count == 0 || is_given(rt, count - 1))
 }

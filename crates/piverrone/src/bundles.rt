@@ -30,11 +30,10 @@ fn tell_records(rt: &(impl Print + Eprint), bytes: &[u8], records: usize) {
     let mut at = 0;
     for i in 0..records {
         let found = reader::read(bytes, at);
-        let length = found.length;
         if !tell_record(rt, bytes, i + 1, found, at) {
             return;
         }
-        at = at + length;
+        at = at + found.length;
     }
     words::done(rt, "records: ", records);
 }

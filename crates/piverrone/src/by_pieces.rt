@@ -15,7 +15,7 @@ const PIECE_BYTES: usize = 4096;
 const MOST_PIECES: usize = 256;
 
 // The state after a piece, whether OUT has the piece, and whether IN ended with it.
-#[derive(Drop)]
+#[derive(Clone, Copy)]
 struct Step {
     state: Pieces,
     whole: bool,
@@ -23,17 +23,17 @@ struct Step {
 }
 
 impl Step {
-    fn is_over(&self) -> bool {
+    fn is_over(self) -> bool {
         self.last || !self.whole
     }
 
-    fn is_complete(&self) -> bool {
+    fn is_complete(self) -> bool {
         self.last && self.whole
     }
 }
 
 // Whether OUT has the ciphertext and the tag, and the rows.
-#[derive(Drop)]
+#[derive(Clone, Copy)]
 struct Sealed {
     whole: bool,
     rows: usize,
@@ -64,11 +64,10 @@ fn pass_on<F: Write>(
 {
     let last = piece.len() < PIECE_BYTES;
     let taken = state.take(piece);
-    let number = taken.number;
     let state = taken.pieces;
     Step {
         state,
-        whole: is_written(rt, out, number, piece),
+        whole: is_written(rt, out, taken.number, piece),
         last,
     }
 }
@@ -124,10 +123,9 @@ fn seal_beside<F: Read, G: Write>(
     }
     let finished = at.state.finish();
     let tag = finished.tag;
-    let rows = finished.rows;
     Sealed {
         whole: is_written(rt, out, finished.number, &tag),
-        rows,
+        rows: finished.rows,
     }
 }
 
@@ -135,14 +133,12 @@ fn seal_beside<F: Read, G: Write>(
 fn seal_over<R: Files + Print + Eprint>(
     rt: &R,
     file: &mut In<'_, R::File>,
-    out: Out<'_, R::File>,
+    mut out: Out<'_, R::File>,
     begun: Pieces,
 ) {
-    let mut out = out;
     let sealed = seal_beside(rt, file, &mut out, begun);
-    let rows = sealed.rows;
     if files::end(rt, out, sealed.whole) {
-        words::done(rt, "sealed, rows: ", rows);
+        words::done(rt, "sealed, rows: ", sealed.rows);
     }
 }
 

@@ -1,7 +1,8 @@
 // Files that the arguments name: read whole or by pieces, and written beside their place and then put there.
-ghost use Rattle.std.specs.Prelude.{◌≡◌, ◌+◌, ◌≤◌, ◌<◌, length, None, IfSome};
+ghost use Rattle.std.specs.Prelude.{◌≡◌, ◌+◌, ◌≤◌, ◌<◌, length, take, None, IfSome};
 ghost use Rattle.std.specs.Io.{ReadsAtMost};
 ghost use Rattle.piverrone.specs.Counts.{IsPrefixLen};
+ghost use Rattle.piverrone.specs.Paths.{part_of};
 
 use crate::{places, words};
 use std::fs::{OpenFile, OpenOptions, Permissions};
@@ -79,7 +80,12 @@ fn not_named<T>(rt: &impl Eprint, word: &str, reason: i32) -> Option<T>
 }
 
 // The bytes of argument i, in the space, or None where they do not fit, which is told.
-fn given<'a>(rt: &(impl Env + Eprint), i: usize, word: &str, space: &'a mut [u8]) -> Option<&'a [u8]>
+fn given<'a>(
+    rt: &(impl Env + Eprint),
+    i: usize,
+    word: &str,
+    space: &'a mut [u8],
+) -> Option<&'a [u8]>
     ensures { IfSome result (λ path. length path.now ≤ length space.old) }
 {
     match rt.arg(i, space) {
@@ -115,7 +121,9 @@ pub fn open_named<'a, R: Env + Files + Eprint>(
     i: usize,
     word: &str,
     space: &'a mut [u8; PATH_SPACE],
-) -> Option<In<'a, R::File>> {
+) -> Option<In<'a, R::File>>
+    ensures { IfSome result (λ file. length file.path.now ≤ 4096) }
+{
     let path = given(rt, i, word, space)?;
     let path = text(rt, word, path)?;
     let file = opened(rt, path)?;
@@ -156,7 +164,8 @@ pub fn read_named(
 // The path and then `.part`.
 fn named_beside(path: &[u8], beside: &mut [u8]) -> usize
     requires { length path.now + 5 ≤ length beside.old }
-    ensures { IsPrefixLen result beside.new }
+    ensures in_bounds { IsPrefixLen result beside.new }
+    ensures name { take result beside.new ≡ part_of path.now }
 {
     let dot = path.len();
     let end = dot + 5;
@@ -208,6 +217,8 @@ pub fn begin_named<'a, R: Env + Files + Eprint>(
     space: &'a mut [u8; OUT_SPACE],
     part_space: &'a mut [u8; PART_SPACE],
 ) -> Option<Out<'a, R::File>>
+    ensures in_space { IfSome result (λ out. length out.path.now ≤ 4090) }
+    ensures is_beside { IfSome result (λ out. out.beside.now ≡ part_of out.path.now) }
 {
     let path = given(rt, i, "OUT", space)?;
     let end = named_beside(path, part_space);

@@ -25,11 +25,11 @@ fn main(rt: HostRuntime) {
     let mut space = [0u8; 4096];
     let n = arguments::argument(&rt, 1, &mut space);
     let command = words::command(&space[..n]);
-    if command == words::ROWS && arguments::are(&rt, 5) {
+    if command == words::ROWS && arguments::is_count(&rt, 5) {
         rows(&rt);
-    } else if command == words::RECORDS && arguments::are(&rt, 3) {
+    } else if command == words::RECORDS && arguments::is_count(&rt, 3) {
         bundles::list_named(&rt, 2);
-    } else if words::is_on_files(command) && arguments::are(&rt, 8) {
+    } else if words::is_on_files(command) && arguments::is_count(&rt, 8) {
         with_files(&rt, command);
     } else {
         words::usage(&rt);
@@ -109,10 +109,9 @@ fn seal(
         words::refused(rt, sealed.number);
         return;
     }
-    let rows = sealed.rows;
     let tag = sealed.tag;
     if files::write_named(rt, 7, text, &tag) {
-        words::done(rt, "sealed, rows: ", rows);
+        words::done(rt, "sealed, rows: ", sealed.rows);
     }
 }
 
@@ -144,13 +143,7 @@ fn label(opening: bool, suite: u8, ad: usize, message: usize, i: usize) -> risk:
 }
 
 // A heading, a line for each block cipher call, and their number, which is the same both ways.
-fn table(
-    rt: &(impl Print + Eprint),
-    opening: bool,
-    suite: u8,
-    ad: usize,
-    message: usize,
-) -> bool {
+fn table(rt: &(impl Print + Eprint), opening: bool, suite: u8, ad: usize, message: usize) -> bool {
     if !words::heading(rt, opening) {
         return false;
     }
@@ -171,13 +164,12 @@ fn rows(rt: &(impl Env + Print + Eprint)) {
         return;
     }
     let suite = numbers::suite_named(rt, 2);
-    let (ad, message) = (ad.value, message.value);
-    let number = risk::refusal(suite, ad, message);
+    let number = risk::refusal(suite, ad.value, message.value);
     if number != 0 {
         words::refused(rt, number);
         return;
     }
-    if table(rt, false, suite, ad, message) {
-        table(rt, true, suite, ad, message);
+    if table(rt, false, suite, ad.value, message.value) {
+        table(rt, true, suite, ad.value, message.value);
     }
 }

@@ -1,8 +1,8 @@
 // What the program reads and writes in words: on standard output what was done, on standard error what was not.
 ghost use Rattle.std.specs.Prelude.{◌≤◌, length};
 
-use record::reader::Record;
 use crate::reasons;
+use record::reader::Record;
 use std::io;
 
 pub const UNKNOWN: u8 = 0;
@@ -50,9 +50,18 @@ fn warn(rt: &impl Eprint, text: &str) {
 }
 
 pub fn usage(rt: &impl Eprint) {
-    warn(rt, "usage: piverrone seal SUITE KEYFILE NONCEFILE DATAFILE IN OUT\n");
-    warn(rt, "       piverrone open SUITE KEYFILE NONCEFILE DATAFILE IN OUT\n");
-    warn(rt, "       piverrone pieces SUITE KEYFILE NONCEFILE DATAFILE IN OUT\n");
+    warn(
+        rt,
+        "usage: piverrone seal SUITE KEYFILE NONCEFILE DATAFILE IN OUT\n",
+    );
+    warn(
+        rt,
+        "       piverrone open SUITE KEYFILE NONCEFILE DATAFILE IN OUT\n",
+    );
+    warn(
+        rt,
+        "       piverrone pieces SUITE KEYFILE NONCEFILE DATAFILE IN OUT\n",
+    );
     warn(rt, "       piverrone rows SUITE DATA-BYTES MESSAGE-BYTES\n");
     warn(rt, "       piverrone records FILE\n");
     warn(
