@@ -1,6 +1,6 @@
 // Seals and opens files, seals them by pieces, prints the risk tables of a sealing and an opening, and lists bundles of sealed rows.
 //
-// No program has an exit status here: `tools/piverrone` makes one of what is written. What was done is told on
+// Its own exit status is 0 whatever it did: `tools/piverrone` makes one of what is written. What was done is told on
 // standard output, and what was not on standard error. The file OUT is written only where the answer is 0.
 
 #![tactic(auto)]
