@@ -106,13 +106,7 @@ fn text<'a>(rt: &impl Eprint, word: &str, bytes: &'a [u8]) -> Option<&'a str>
 
 // The file, or None where it can't be opened, which is told.
 fn opened<R: Files + Eprint>(rt: &R, path: &str) -> Option<R::File> {
-    match fs::open(rt, path) {
-        Ok(file) => Some(file),
-        Err(error) => {
-            words::failed(rt, path, error);
-            None
-        }
-    }
+    words::or_tell(rt, path, fs::open(rt, path))
 }
 
 // Opens the file that argument i names. The usage calls that argument `word`.
@@ -138,13 +132,7 @@ pub fn read_from<F: Read>(
 ) -> Option<usize>
     ensures { IfSome result (λ count. IsPrefixLen count buffer.new) }
 {
-    match read_all(&mut file.file, buffer) {
-        Ok(count) => Some(count),
-        Err(error) => {
-            words::failed(rt, file.path, error);
-            None
-        }
-    }
+    words::or_tell(rt, file.path, read_all(&mut file.file, buffer))
 }
 
 // Reads the file that argument i names, as far as the buffer goes.
@@ -176,28 +164,21 @@ fn named_beside(path: &[u8], beside: &mut [u8]) -> usize
 
 // Gives a new file to its owner alone, or tells what failed, and then it is gone.
 fn owned<R: Files + Eprint>(rt: &R, path: &str, file: R::File) -> Option<R::File> {
-    match file.set_permissions(Permissions::from_mode(OWNER_ALONE)) {
-        Ok(()) => Some(file),
-        Err(error) => {
-            words::failed(rt, path, error);
-            drop(file);
-            let _ = fs::remove_file(rt, path);
-            None
-        }
+    let answer = file.set_permissions(Permissions::from_mode(OWNER_ALONE));
+    if words::or_tell(rt, path, answer).is_none() {
+        drop(file);
+        let _ = fs::remove_file(rt, path);
+        return None;
     }
+    Some(file)
 }
 
 // Makes a file that is its owner's alone before a byte is in it. None where that fails, which is told.
 fn created<R: Files + Eprint>(rt: &R, path: &str) -> Option<R::File> {
     let mut how = OpenOptions::new();
     how.write(true).create_new(true).mode(OWNER_ALONE);
-    match how.open(rt, path) {
-        Ok(file) => owned(rt, path, file),
-        Err(error) => {
-            words::failed(rt, path, error);
-            None
-        }
-    }
+    let file = words::or_tell(rt, path, how.open(rt, path))?;
+    owned(rt, path, file)
 }
 
 // The same beside a path whose place a new file may take.
@@ -230,37 +211,16 @@ pub fn begin_named<'a, R: Env + Files + Eprint>(
 
 // Writes at the file's end, or tells what failed.
 pub fn write_to<F: Write>(rt: &impl Eprint, out: &mut Out<'_, F>, part: &[u8]) -> bool {
-    match out.file.write_all(part) {
-        Ok(()) => true,
-        Err(error) => {
-            words::failed(rt, out.beside, error);
-            false
-        }
-    }
+    words::or_tell(rt, out.beside, out.file.write_all(part)).is_some()
 }
 
 // Forces what is whole to the device, and closes.
 fn is_kept<F: OpenFile + Drop>(rt: &impl Eprint, file: F, is_whole: bool, beside: &str) -> bool {
-    if !is_whole {
-        return false;
-    }
-    match file.sync_all() {
-        Ok(()) => true,
-        Err(error) => {
-            words::failed(rt, beside, error);
-            false
-        }
-    }
+    is_whole && words::or_tell(rt, beside, file.sync_all()).is_some()
 }
 
 fn is_renamed(rt: &(impl Files + Eprint), beside: &str, path: &str) -> bool {
-    match fs::rename(rt, beside, path) {
-        Ok(()) => true,
-        Err(error) => {
-            words::failed(rt, path, error);
-            false
-        }
-    }
+    words::or_tell(rt, path, fs::rename(rt, beside, path)).is_some()
 }
 
 // Puts what is whole in OUT's place. Where it is not, or that fails, which is told, the file beside OUT is removed.

@@ -1,5 +1,5 @@
 // What the program reads and writes in words: on standard output what was done, on standard error what was not.
-ghost use Rattle.std.specs.Prelude.{◌≤◌, length};
+ghost use Rattle.std.specs.Prelude.{◌≡◌, ◌≤◌, length, None, Some, MatchResult};
 
 use crate::reasons;
 use record::reader::Record;
@@ -130,15 +130,22 @@ pub fn failed(rt: &impl Eprint, what: &str, error: io::Error) {
     warn(rt, "\n");
 }
 
-// Whether all was written. Where it was not, that is told.
-fn told(rt: &impl Eprint, all: io::Result<()>) -> bool {
-    match all {
-        Ok(()) => true,
+// What was answered, or None where there was a failure, which is told; `what` failed.
+pub fn or_tell<T>(rt: &impl Eprint, what: &str, answer: io::Result<T>) -> Option<T>
+    ensures { MatchResult answer (λ value. result ≡ Some value) (λ _. result ≡ None) }
+{
+    match answer {
+        Ok(value) => Some(value),
         Err(error) => {
-            failed(rt, "standard output", error);
-            false
+            failed(rt, what, error);
+            None
         }
     }
+}
+
+// Whether all was written. Where it was not, that is told.
+fn told(rt: &impl Eprint, all: io::Result<()>) -> bool {
+    or_tell(rt, "standard output", all).is_some()
 }
 
 // What was done, and its number of rows or records.
