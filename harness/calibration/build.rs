@@ -1,4 +1,4 @@
-//! Links the archive that `rt staticlib calibration` writes, or the one that CALIBRATION_ARCHIVE names.
+//! Links the archive that `rt lib` writes in crates/calibration, or the one that CALIBRATION_ARCHIVE names.
 
 use std::{
     env, fs,
@@ -22,7 +22,7 @@ fn archive() -> PathBuf {
     match env::var_os("CALIBRATION_ARCHIVE") {
         Some(path) => path.into(),
         None => Path::new(&variable("CARGO_MANIFEST_DIR"))
-            .join("../../target/staticlib/libcalibration.a"),
+            .join("../../crates/calibration/out/libcalibration.a"),
     }
 }
 
@@ -32,7 +32,7 @@ fn variable(name: &str) -> std::ffi::OsString {
 
 fn missing(archive: &Path, error: &std::io::Error) -> ! {
     println!(
-        "cargo::error=no archive at {} ({error}): run `rt staticlib calibration`, or name one in \
+        "cargo::error=no archive at {} ({error}): run `rt lib` in crates/calibration, or name one in \
          CALIBRATION_ARCHIVE",
         archive.display()
     );

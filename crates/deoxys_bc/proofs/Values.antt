@@ -1,8 +1,7 @@
 -- The last round mixes too (document 01, "Mistakes that look right"), by values: one round with round keys of zeros.
 -- Assumes nothing.
 use mathlib.Core.Path.{◌≡◌, refl}
-use mathlib.Core.List.{List, ◌∷◌}
-use Prim.Native.Nat.{ℕ}
+use mathlib.Core.List.{◌∷◌}
 use lib.ListN.{replicate}
 use Rattle.octets.specs.Octets.{◌⊕◌, table, each_byte, zero_block}
 use Rattle.field.specs.Field.{double, times, power, inverse}

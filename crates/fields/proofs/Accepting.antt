@@ -12,7 +12,7 @@ use lib.ListN.{length, take, drop, get_or, length-append, length-drop, take-appe
 use lib.Seq.{length-take-le, take_at, drop_at, drop-drop, get_or-append-add}
 use borrow.Author.Tests.{eq-eqb, le-leb, eqb-true, leb-true}
 use Rattle.octets.specs.Octets.{Bytes, pick, big_endian}
-use Rattle.fields.specs.Fields.{Rule, allows, between, number2, told, Read, refused, got, and_then, take_field, take_fields, field, fields, field_refusal, fields_refusal}
+use Rattle.fields.specs.Fields.{Rule, allows, number2, told, Read, refused, got, and_then, take_field, take_fields, field, fields, field_refusal, fields_refusal}
 use Rattle.fields.proofs.Laying.{field-length}
 use Rattle.fields.proofs.Ranges.{both}
 

@@ -22,7 +22,7 @@ unfolding text_rows
 text_length k full part s zero i h l =
     let d : length (drop (16 * i) s) ≡ length s - 16 * i = length-drop (16 * i) s in
     let p : length (text_rows k full part s 0 i) ≡ (length (drop (16 * i) s) + 15) / 16 =
-        partial_length (λ p. enciphered k (numbered part i) (padded p)) (drop (16 * i) s) (omega arith) in
+    partial_length (λ p. enciphered k (numbered part i) (padded p)) (drop (16 * i) s) (omega arith) in
     omega arith
 text_length k full part s (suc n) i h l =
     let p = text_length k full part s n (i + 1) (omega arith) (omega arith) in

@@ -1,11 +1,11 @@
 -- A sealed file opened in place: its parts are the ciphertext and the tag.
 -- Assumes nothing.
-use mathlib.Core.Path.{◌≡◌, refl, ◌∙◌}
+use mathlib.Core.Path.{◌≡◌, ap, ◌∙◌}
 use mathlib.Core.List.{List, ◌++◌}
 use Prim.Native.Nat.{ℕ, ◌-◌}
 use native.Mathlib.Omega.{arith}
-use lib.ListN.{length, take, drop}
-use lib.Seq.{take_at, drop_at, take-length, length-take-le}
+use lib.ListN.{length, take, drop, length-drop}
+use lib.Seq.{take_at, drop_at, length-take-le}
 use Rattle.octets.proofs.Parts.{rest_is}
 use Rattle.deoxys.specs.Entry.{Opening, opening}
 use Rattle.deoxys.specs.declared.Opened.{Opened}
@@ -15,16 +15,16 @@ use Rattle.parcels.specs.Parcels.{tag_at, cipher_in, tag_in}
 abbrev rest : List ℕ → ℕ → List ℕ
 rest file at = take (length file - at) (drop at file)
 
-module _ (file tag blank : List ℕ) (at n : ℕ) (is-n : n ≡ length (rest file at))
-    (is-tag : tag ≡ take (length (rest file at)) (rest file at) ++ drop (length (rest file at)) blank) where
-  tag_copied : take n tag ≡ drop at file
+module _ (file copied blank : List ℕ) (at : ℕ) (is-copied : copied ≡ rest file at) where
+  tag_copied : take (length file - at) (copied ++ blank) ≡ drop at file
   tag_copied =
-      rw (is-n, is-tag, take-length (rest file at), take_at (rest file at) (drop (length (rest file at)) blank) (length (rest file at)) refl)
-      (rest_is file at)
+      let size : length (rest file at) ≡ length file - at = omega (arith, ap length (rest_is file at), length-drop {A = ℕ} at file) in
+      rw (is-copied, take_at (rest file at) blank (length file - at) size) (rest_is file at)
 
   module _ (suite : ℕ) (key nonce ad last : List ℕ) (answer : Opened) where
     pub parcel_opened : at ≡ tag_at file → length last ≡ length (take at file)
-        → ◌≡◌ {A = Opening} (record { answer = answer; buffer = last }) (opening suite key nonce ad (take at file) (take n tag))
+        → ◌≡◌ {A = Opening} (record { answer = answer; buffer = last })
+        (opening suite key nonce ad (take at file) (take (length file - at) (copied ++ blank)))
         → (◌≡◌ {A = Opening} (record { answer = answer; buffer = take (tag_at file) (last ++ drop at file) })
         (opening suite key nonce ad (cipher_in file) (tag_in file)))
         × (drop (tag_at file) (last ++ drop at file) ≡ tag_in file)

@@ -25,7 +25,8 @@ pub fn open(suite: u8, key: &[u8], nonce: &[u8], ad: &[u8], file: &mut [u8]) -> 
         × (drop (tag_at file.old) file.new ≡ tag_in file.old) }
 {
     let at = tag_at(file.len());
+    let n = file.len() - at;
     let mut tag = [0u8; 16];
-    let n = bytes::copy(&file[at..], &mut tag);
+    tag[..n].copy_from_slice(&file[at..]);
     deoxys::open(suite, key, nonce, ad, &mut file[..at], &tag[..n])
 }

@@ -4,62 +4,68 @@ ghost use Rattle.record.specs.HouseRecord.{ReadAllows};
 use crate::{files, words};
 use record::reader;
 use record::reader::Record;
+use std::rt::{Env, Files};
 
 // One byte more than the longest bundle, 64 records of 5,172 bytes. What lies after it can't change the answer: each of the first 64 records
 // ends within 331,008 bytes, and any byte after record 64 is refused alike.
 const SPACE: usize = 331009;
 
 // A line for a record that was read at a place.
-fn tell_record(bytes: &[u8], count: usize, found: Record, at: usize) -> bool
+fn tell_record(
+    rt: &(impl Print + Eprint),
+    bytes: &[u8],
+    count: usize,
+    found: Record,
+    at: usize,
+) -> bool
     requires { ReadAllows bytes.now at found }
 {
     let from = found.note;
     let end = from + found.note_length;
-    words::sealed_row(count, found, &bytes[from..end], at)
+    words::sealed_row(rt, count, found, &bytes[from..end], at)
 }
 
 // A line for each record, and their number.
-fn tell_records(bytes: &[u8], records: usize) {
+fn tell_records(rt: &(impl Print + Eprint), bytes: &[u8], records: usize) {
     let mut at = 0;
     for i in 0..records {
         let found = reader::read(bytes, at);
-        if !tell_record(bytes, i + 1, found, at) {
+        let length = found.length;
+        if !tell_record(rt, bytes, i + 1, found, at) {
             return;
         }
-        at = at + found.length;
+        at = at + length;
     }
-    words::done(b"records: ", records);
+    words::done(rt, "records: ", records);
 }
 
 // Tells the first record that can't be read, or what comes after the last one allowed.
-fn tell_refusal(bytes: &[u8], number: u8) {
+fn tell_refusal(rt: &impl Eprint, bytes: &[u8], number: u8) {
     let mut at = 0;
     for i in 0..reader::MOST_RECORDS {
         let found = reader::read(bytes, at);
         if found.number != 0 {
-            words::refused_at(number, i + 1, at);
+            words::refused_at(rt, number, i + 1, at);
             return;
         }
         at = at + found.length;
     }
-    words::refused_at(number, reader::MOST_RECORDS + 1, at);
+    words::refused_at(rt, number, reader::MOST_RECORDS + 1, at);
 }
 
-fn answer(bytes: &[u8]) {
+fn answer(rt: &(impl Print + Eprint), bytes: &[u8]) {
     let bundle = reader::read_bundle(bytes);
     if bundle.number != 0 {
-        tell_refusal(bytes, bundle.number);
+        tell_refusal(rt, bytes, bundle.number);
     } else {
-        tell_records(bytes, bundle.records);
+        tell_records(rt, bytes, bundle.records);
     }
 }
 
 // Lists the file that argument i, FILE, names.
-pub fn list_named(i: usize) {
+pub fn list_named(rt: &(impl Env + Files + Print + Eprint), i: usize) {
     let mut space = [0u8; SPACE];
-    let got = files::read_named(i, b"FILE", &mut space);
-    let end = got.count;
-    if got.whole {
-        answer(&space[..end]);
+    if let Some(end) = files::read_named(rt, i, "FILE", &mut space) {
+        answer(rt, &space[..end]);
     }
 }

@@ -1,11 +1,12 @@
 // Sealing on a machine that can't hold the message: one piece of IN is held at a time.
 ghost use Rattle.std.specs.Prelude.{◌≡◌, true, ltb, length};
-ghost use Rattle.io.specs.Counts.{IsPrefixLen};
 ghost use Rattle.pieces.specs.ByPieces.{taking};
 
 use crate::files::{In, Out};
 use crate::{files, words};
 use pieces::Pieces;
+use std::io::{Read, Write};
+use std::rt::{Env, Files};
 
 // A multiple of 16, so that only IN's end can make a piece the last.
 const PIECE_BYTES: usize = 4096;
@@ -22,11 +23,11 @@ struct Step {
 }
 
 impl Step {
-    fn is_over(self) -> bool {
+    fn is_over(&self) -> bool {
         self.last || !self.whole
     }
 
-    fn is_complete(self) -> bool {
+    fn is_complete(&self) -> bool {
         self.last && self.whole
     }
 }
@@ -39,20 +40,23 @@ struct Sealed {
 }
 
 // Writes what a call left that answered with this number, or tells why not.
-fn is_written(out: Out, number: u8, left: &[u8]) -> bool
-    requires { IsPrefixLen out.beside_end out.beside }
+fn is_written<F: Write>(rt: &impl Eprint, out: &mut Out<'_, F>, number: u8, left: &[u8]) -> bool
     ensures { result ≡ true → number ≡ 0 }
 {
     if number != 0 {
-        words::refused(number);
+        words::refused(rt, number);
         return false;
     }
-    files::write_to(out, left)
+    files::write_to(rt, out, left)
 }
 
 // Enciphers a piece and then writes it, or tells why not.
-fn pass_on(out: Out, state: Pieces, piece: &mut [u8]) -> Step
-    requires { IsPrefixLen out.beside_end out.beside }
+fn pass_on<F: Write>(
+    rt: &impl Eprint,
+    out: &mut Out<'_, F>,
+    state: Pieces,
+    piece: &mut [u8],
+) -> Step
     ensures state_value { result.state ≡ (taking state piece.old).answer.pieces }
     ensures piece_after { piece.new ≡ (taking state piece.old).piece }
     ensures piece_value { result.whole ≡ true → (taking state piece.old).answer.number ≡ 0 }
@@ -60,53 +64,58 @@ fn pass_on(out: Out, state: Pieces, piece: &mut [u8]) -> Step
 {
     let last = piece.len() < PIECE_BYTES;
     let taken = state.take(piece);
+    let number = taken.number;
     let state = taken.pieces;
     Step {
         state,
-        whole: is_written(out, taken.number, piece),
+        whole: is_written(rt, out, number, piece),
         last,
     }
 }
 
 // Reads a piece and passes it on.
-fn next_step(file: In, out: Out, state: Pieces) -> Step
-    requires prefix_len { IsPrefixLen file.end file.path }
-    requires prefix_len_2 { IsPrefixLen out.beside_end out.beside }
-{
-    let mut space = io::buffer();
-    let got = files::read_from(file, &mut space);
-    let n = got.count;
-    if !got.whole {
-        return Step {
+fn next_step<F: Read, G: Write>(
+    rt: &impl Eprint,
+    file: &mut In<'_, F>,
+    out: &mut Out<'_, G>,
+    state: Pieces,
+) -> Step {
+    let mut space = [0u8; PIECE_BYTES];
+    match files::read_from(rt, file, &mut space) {
+        Some(n) => pass_on(rt, out, state, &mut space[..n]),
+        None => Step {
             state,
             whole: false,
             last: true,
-        };
+        },
     }
-    pass_on(out, state, &mut space[..n])
 }
 
 // The first step at which IN ends or something fails.
-fn last_step(file: In, out: Out, begun: Pieces) -> Step
-    requires prefix_len { IsPrefixLen file.end file.path }
-    requires prefix_len_2 { IsPrefixLen out.beside_end out.beside }
-{
-    let mut at = next_step(file, out, begun);
+fn last_step<F: Read, G: Write>(
+    rt: &impl Eprint,
+    file: &mut In<'_, F>,
+    out: &mut Out<'_, G>,
+    begun: Pieces,
+) -> Step {
+    let mut at = next_step(rt, file, out, begun);
     for _ in 0..MOST_PIECES {
         if at.is_over() {
             return at;
         }
-        at = next_step(file, out, at.state);
+        at = next_step(rt, file, out, at.state);
     }
     at
 }
 
 // Writes the ciphertext and then the tag, or tells why not.
-fn seal_beside(file: In, out: Out, begun: Pieces) -> Sealed
-    requires prefix_len { IsPrefixLen file.end file.path }
-    requires prefix_len_2 { IsPrefixLen out.beside_end out.beside }
-{
-    let at = last_step(file, out, begun);
+fn seal_beside<F: Read, G: Write>(
+    rt: &impl Eprint,
+    file: &mut In<'_, F>,
+    out: &mut Out<'_, G>,
+    begun: Pieces,
+) -> Sealed {
+    let at = last_step(rt, file, out, begun);
     if !at.is_complete() {
         return Sealed {
             whole: false,
@@ -115,38 +124,52 @@ fn seal_beside(file: In, out: Out, begun: Pieces) -> Sealed
     }
     let finished = at.state.finish();
     let tag = finished.tag;
+    let rows = finished.rows;
     Sealed {
-        whole: is_written(out, finished.number, &tag),
-        rows: finished.rows,
+        whole: is_written(rt, out, finished.number, &tag),
+        rows,
     }
 }
 
 // Puts OUT in its place and tells the rows, or leaves what stood there.
-fn seal_over(file: In, out: Out, begun: Pieces)
-    requires prefix_len { IsPrefixLen file.end file.path }
-    requires prefix_len_2 { IsPrefixLen out.end out.path }
-    requires prefix_len_3 { IsPrefixLen out.beside_end out.beside }
-{
-    let sealed = seal_beside(file, out, begun);
-    if files::end(out, sealed.whole) {
-        words::done(b"sealed, rows: ", sealed.rows);
+fn seal_over<R: Files + Print + Eprint>(
+    rt: &R,
+    file: &mut In<'_, R::File>,
+    out: Out<'_, R::File>,
+    begun: Pieces,
+) {
+    let mut out = out;
+    let sealed = seal_beside(rt, file, &mut out, begun);
+    let rows = sealed.rows;
+    if files::end(rt, out, sealed.whole) {
+        words::done(rt, "sealed, rows: ", rows);
+    }
+}
+
+// Seals the open file IN as OUT.
+fn seal_file<R: Env + Files + Print + Eprint>(rt: &R, file: &mut In<'_, R::File>, begun: Pieces) {
+    let mut space = [0u8; files::OUT_SPACE];
+    let mut part_space = [0u8; files::PART_SPACE];
+    if let Some(out) = files::begin_named(rt, 7, &mut space, &mut part_space) {
+        seal_over(rt, file, out, begun);
     }
 }
 
 // Seals IN as OUT. Where the begin is refused, nothing is opened or made.
-pub fn seal(suite: u8, key: &[u8], nonce: &[u8], ad: &[u8]) {
+pub fn seal(
+    rt: &(impl Env + Files + Print + Eprint),
+    suite: u8,
+    key: &[u8],
+    nonce: &[u8],
+    ad: &[u8],
+) {
     let begun = pieces::begin(suite, key, nonce, ad);
     if begun.number != 0 {
-        words::refused(begun.number);
+        words::refused(rt, begun.number);
         return;
     }
-    let file = files::open_named(6, b"IN");
-    if file.fd < 0 {
-        return;
+    let mut space = [0u8; files::PATH_SPACE];
+    if let Some(mut file) = files::open_named(rt, 6, "IN", &mut space) {
+        seal_file(rt, &mut file, begun);
     }
-    let out = files::begin_named(7);
-    if 0 <= out.fd {
-        seal_over(file, out, begun);
-    }
-    libc::close(file.fd);
 }

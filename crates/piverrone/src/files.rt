@@ -1,43 +1,44 @@
 // Files that the arguments name: read whole or by pieces, and written beside their place and then put there.
-ghost use Rattle.std.specs.Prelude.{◌≡◌, ◌+◌, ◌≤◌, ◌<◌, length};
-ghost use Rattle.io.specs.Counts.{IsPrefixLen};
+ghost use Rattle.std.specs.Prelude.{◌≡◌, ◌+◌, ◌≤◌, ◌<◌, length, None, IfSome};
+ghost use Rattle.std.specs.Io.{ReadsAtMost};
+ghost use Rattle.piverrone.specs.Counts.{IsPrefixLen};
 
-use crate::places;
-use libc::PATH_MAX;
+use crate::{places, words};
+use std::fs::{OpenFile, OpenOptions, Permissions};
+use std::io::{Read, Write};
+use std::os::unix::fs::{OpenOptionsExt, PermissionsExt};
+use std::rt::{Env, Files};
+use std::{fs, io, str};
+
+// A path and the 0 after it.
+pub const PATH_SPACE: usize = 4096;
 
 // With `.part` after it and a 0 after that, OUT is still a path.
-const OUT_SPACE: usize = 4090;
+pub const OUT_SPACE: usize = 4090;
 
-const PART_SPACE: usize = 4095;
+pub const PART_SPACE: usize = 4095;
 
 // Read and written by the owner, and by no other.
 const OWNER_ALONE: u32 = 0o600;
 
-// How much was read, and whether nothing failed.
-#[derive(Drop)]
-pub struct Got {
-    pub whole: bool,
-    pub count: usize,
-}
+// What Linux answers where a path does not fit, and where bytes are no text.
+const NAME_TOO_LONG: i32 = 36;
+
+const NOT_TEXT: i32 = 84;
 
 // A file to read, and its path.
 #[derive(Drop)]
-pub struct In {
-    // Below 0 where the file is not open, which was told.
-    pub fd: i32,
-    path: [u8; PATH_MAX],
-    end: usize,
+pub struct In<'a, F> {
+    file: F,
+    path: &'a str,
 }
 
 // The path OUT, and a file beside it to write, which takes its place in the end.
 #[derive(Drop)]
-pub struct Out {
-    // Below 0 where there is no such file, which was told.
-    pub fd: i32,
-    path: [u8; OUT_SPACE],
-    end: usize,
-    beside: [u8; PART_SPACE],
-    beside_end: usize,
+pub struct Out<'a, F> {
+    file: F,
+    path: &'a str,
+    beside: &'a str,
 }
 
 // Room for a text at the limit, the tag after it, and one byte more, by which a longer file is seen to be too long.
@@ -48,97 +49,108 @@ pub fn large_space() -> [u8; 1048593]
 }
 
 // Reads once.
-fn read_some(fd: i32, part: &mut [u8]) -> Got
-    ensures { result.count ≤ length part.new }
+fn read_some(file: &mut impl Read, part: &mut [u8]) -> io::Result<usize>
+    ensures { ReadsAtMost result part.new }
 {
-    let got = libc::read(fd, part);
-    Got {
-        whole: 0 <= got,
-        count: io::count(got, part),
-    }
+    file.read(part)
 }
 
 // Reads until the buffer is full or the file ends.
-fn read_all(fd: i32, buffer: &mut [u8]) -> Got
-    ensures { IsPrefixLen result.count buffer.new }
+fn read_all(file: &mut impl Read, buffer: &mut [u8]) -> io::Result<usize>
+    ensures { ReadsAtMost result buffer.new }
 {
     let mut at: usize = 0;
     while at < buffer.len() {
-        let got = read_some(fd, &mut buffer[at..]);
-        let more = got.count;
+        let more = read_some(file, &mut buffer[at..])?;
         if more == 0 {
-            return Got {
-                whole: got.whole,
-                count: at,
-            };
+            return Ok(at);
         }
         at += more;
     }
-    Got {
-        whole: true,
-        count: at,
+    Ok(at)
+}
+
+// Tells why an argument is no path. The usage calls it `word`.
+fn not_named<T>(rt: &impl Eprint, word: &str, reason: i32) -> Option<T>
+    ensures { result ≡ None }
+{
+    words::failed(rt, word, io::Error::from_raw_os_error(reason));
+    None
+}
+
+// The bytes of argument i, in the space, or None where they do not fit, which is told.
+fn given<'a>(rt: &(impl Env + Eprint), i: usize, word: &str, space: &'a mut [u8]) -> Option<&'a [u8]>
+    ensures { IfSome result (λ path. length path.now ≤ length space.old) }
+{
+    match rt.arg(i, space) {
+        Ok(end) => Some(&space[..end]),
+        Err(_) => not_named(rt, word, NAME_TOO_LONG),
     }
 }
 
-// Whether the argument that was asked for last is whole. Where it is not, that is told; the usage calls it `word`.
-fn is_named(word: &[u8]) -> bool {
-    if os::errno() != 0 {
-        os::fail(word);
-        return false;
+// The bytes as text, or None where they are none, which is told: std's paths are text.
+fn text<'a>(rt: &impl Eprint, word: &str, bytes: &'a [u8]) -> Option<&'a str>
+    ensures { IfSome result (λ path. path.now ≡ bytes.now) }
+{
+    match str::from_utf8(bytes) {
+        Ok(path) => Some(path),
+        Err(_) => not_named(rt, word, NOT_TEXT),
     }
-    true
 }
 
-// A descriptor, or -1 where the file can't be opened, which is told.
-fn opened(is_named: bool, path: &[u8]) -> i32 {
-    if !is_named {
-        return -1;
+// The file, or None where it can't be opened, which is told.
+fn opened<R: Files + Eprint>(rt: &R, path: &str) -> Option<R::File> {
+    match fs::open(rt, path) {
+        Ok(file) => Some(file),
+        Err(error) => {
+            words::failed(rt, path, error);
+            None
+        }
     }
-    let fd = os::open_read(path);
-    if fd < 0 {
-        os::fail(path);
-    }
-    fd
 }
 
 // Opens the file that argument i names. The usage calls that argument `word`.
-pub fn open_named(i: usize, word: &[u8]) -> In
-    ensures { IsPrefixLen result.end result.path }
-{
-    let mut path = io::buffer();
-    let end = os::arg(i, &mut path);
-    let fd = opened(is_named(word), &path[..end]);
-    In { fd, path, end }
+pub fn open_named<'a, R: Env + Files + Eprint>(
+    rt: &R,
+    i: usize,
+    word: &str,
+    space: &'a mut [u8; PATH_SPACE],
+) -> Option<In<'a, R::File>> {
+    let path = given(rt, i, word, space)?;
+    let path = text(rt, word, path)?;
+    let file = opened(rt, path)?;
+    Some(In { file, path })
 }
 
-// Reads until the buffer is full or the file ends, or tells the file's name and what failed.
-pub fn read_from(file: In, buffer: &mut [u8]) -> Got
-    requires { IsPrefixLen file.end file.path }
-    ensures { IsPrefixLen result.count buffer.new }
+// Reads until the buffer is full or the file ends. None where that fails, which is told with the file's name.
+pub fn read_from<F: Read>(
+    rt: &impl Eprint,
+    file: &mut In<'_, F>,
+    buffer: &mut [u8],
+) -> Option<usize>
+    ensures { IfSome result (λ count. IsPrefixLen count buffer.new) }
 {
-    let got = read_all(file.fd, buffer);
-    if !got.whole {
-        let path = file.path;
-        let end = file.end;
-        os::fail(&path[..end]);
+    match read_all(&mut file.file, buffer) {
+        Ok(count) => Some(count),
+        Err(error) => {
+            words::failed(rt, file.path, error);
+            None
+        }
     }
-    got
 }
 
 // Reads the file that argument i names, as far as the buffer goes.
-pub fn read_named(i: usize, word: &[u8], buffer: &mut [u8]) -> Got
-    ensures { IsPrefixLen result.count buffer.new }
+pub fn read_named(
+    rt: &(impl Env + Files + Eprint),
+    i: usize,
+    word: &str,
+    buffer: &mut [u8],
+) -> Option<usize>
+    ensures { IfSome result (λ count. IsPrefixLen count buffer.new) }
 {
-    let file = open_named(i, word);
-    if file.fd < 0 {
-        return Got {
-            whole: false,
-            count: 0,
-        };
-    }
-    let got = read_from(file, buffer);
-    libc::close(file.fd);
-    got
+    let mut space = [0u8; PATH_SPACE];
+    let mut file = open_named(rt, i, word, &mut space)?;
+    read_from(rt, &mut file, buffer)
 }
 
 // The path and then `.part`.
@@ -146,113 +158,117 @@ fn named_beside(path: &[u8], beside: &mut [u8]) -> usize
     requires { length path.now + 5 ≤ length beside.old }
     ensures { IsPrefixLen result beside.new }
 {
-    let n = bytes::copy(path, beside);
-    n + bytes::copy(b".part", &mut beside[n..])
+    let dot = path.len();
+    let end = dot + 5;
+    beside[..dot].copy_from_slice(path);
+    beside[dot..end].copy_from_slice(b".part");
+    end
 }
 
-// Makes a file that is its owner's alone before a byte is in it. A descriptor, or -1 where that fails, which is told.
-fn created(path: &[u8]) -> i32 {
-    let fd = os::create(path);
-    if fd < 0 {
-        os::fail(path);
-        return -1;
+// Gives a new file to its owner alone, or tells what failed, and then it is gone.
+fn owned<R: Files + Eprint>(rt: &R, path: &str, file: R::File) -> Option<R::File> {
+    match file.set_permissions(Permissions::from_mode(OWNER_ALONE)) {
+        Ok(()) => Some(file),
+        Err(error) => {
+            words::failed(rt, path, error);
+            drop(file);
+            let _ = fs::remove_file(rt, path);
+            None
+        }
     }
-    if libc::fchmod(fd, OWNER_ALONE) != 0 {
-        os::fail(path);
-        libc::close(fd);
-        os::unlink(path);
-        return -1;
+}
+
+// Makes a file that is its owner's alone before a byte is in it. None where that fails, which is told.
+fn created<R: Files + Eprint>(rt: &R, path: &str) -> Option<R::File> {
+    let mut how = OpenOptions::new();
+    how.write(true).create_new(true).mode(OWNER_ALONE);
+    match how.open(rt, path) {
+        Ok(file) => owned(rt, path, file),
+        Err(error) => {
+            words::failed(rt, path, error);
+            None
+        }
     }
-    fd
 }
 
 // The same beside a path whose place a new file may take.
-fn created_beside(is_named: bool, path: &[u8], beside: &[u8]) -> i32
+fn created_beside<R: Files + Eprint>(rt: &R, path: &str, beside: &str) -> Option<R::File>
     requires { length path.now < 4096 }
 {
-    if !is_named {
-        return -1;
+    if !places::is_free(rt, path) {
+        return None;
     }
-    if !places::is_free(path) {
-        return -1;
-    }
-    created(beside)
+    created(rt, beside)
 }
 
 // Makes a file beside the one that argument i, OUT, names, which stays as it is.
-pub fn begin_named(i: usize) -> Out
-    ensures prefix_len { IsPrefixLen result.end result.path }
-    ensures prefix_len_2 { IsPrefixLen result.beside_end result.beside }
+pub fn begin_named<'a, R: Env + Files + Eprint>(
+    rt: &R,
+    i: usize,
+    space: &'a mut [u8; OUT_SPACE],
+    part_space: &'a mut [u8; PART_SPACE],
+) -> Option<Out<'a, R::File>>
 {
-    let mut path = [0u8; OUT_SPACE];
-    let mut beside = [0u8; PART_SPACE];
-    let end = os::arg(i, &mut path);
-    let is_named = is_named(b"OUT");
-    let beside_end = named_beside(&path[..end], &mut beside);
-    let fd = created_beside(is_named, &path[..end], &beside[..beside_end]);
-    Out {
-        fd,
-        path,
-        end,
-        beside,
-        beside_end,
-    }
+    let path = given(rt, i, "OUT", space)?;
+    let end = named_beside(path, part_space);
+    let beside = text(rt, "OUT", &part_space[..end])?;
+    let path = text(rt, "OUT", path)?;
+    let file = created_beside(rt, path, beside)?;
+    Some(Out { file, path, beside })
 }
 
 // Writes at the file's end, or tells what failed.
-pub fn write_to(out: Out, part: &[u8]) -> bool
-    requires { IsPrefixLen out.beside_end out.beside }
-{
-    let is_written = io::write_all(out.fd, part);
-    if !is_written {
-        let beside = out.beside;
-        let end = out.beside_end;
-        os::fail(&beside[..end]);
+pub fn write_to<F: Write>(rt: &impl Eprint, out: &mut Out<'_, F>, part: &[u8]) -> bool {
+    match out.file.write_all(part) {
+        Ok(()) => true,
+        Err(error) => {
+            words::failed(rt, out.beside, error);
+            false
+        }
     }
-    is_written
 }
 
 // Forces what is whole to the device, and closes.
-fn is_kept(fd: i32, is_whole: bool, beside: &[u8]) -> bool {
-    let is_forced = is_whole && libc::fsync(fd) == 0;
-    let is_kept = libc::close(fd) == 0 && is_forced;
-    if is_whole && !is_kept {
-        os::fail(beside);
-    }
-    is_kept
-}
-
-fn is_renamed(beside: &[u8], path: &[u8]) -> bool {
-    if os::rename(beside, path) < 0 {
-        os::fail(path);
+fn is_kept<F: OpenFile + Drop>(rt: &impl Eprint, file: F, is_whole: bool, beside: &str) -> bool {
+    if !is_whole {
         return false;
     }
-    true
+    match file.sync_all() {
+        Ok(()) => true,
+        Err(error) => {
+            words::failed(rt, beside, error);
+            false
+        }
+    }
+}
+
+fn is_renamed(rt: &(impl Files + Eprint), beside: &str, path: &str) -> bool {
+    match fs::rename(rt, beside, path) {
+        Ok(()) => true,
+        Err(error) => {
+            words::failed(rt, path, error);
+            false
+        }
+    }
 }
 
 // Puts what is whole in OUT's place. Where it is not, or that fails, which is told, the file beside OUT is removed.
-pub fn end(out: Out, is_whole: bool) -> bool
-    requires prefix_len { IsPrefixLen out.end out.path }
-    requires prefix_len_2 { IsPrefixLen out.beside_end out.beside }
-{
-    let path = out.path;
-    let end = out.end;
-    let beside = out.beside;
-    let beside_end = out.beside_end;
-    let is_put = is_kept(out.fd, is_whole, &beside[..beside_end])
-        && is_renamed(&beside[..beside_end], &path[..end]);
+pub fn end<R: Files + Eprint>(rt: &R, out: Out<'_, R::File>, is_whole: bool) -> bool {
+    let Out { file, path, beside } = out;
+    let is_put = is_kept(rt, file, is_whole, beside) && is_renamed(rt, beside, path);
     if !is_put {
-        os::unlink(&beside[..beside_end]);
+        let _ = fs::remove_file(rt, beside);
     }
     is_put
 }
 
 // Writes the file that argument i, OUT, names, or tells what failed.
-pub fn write_named(i: usize, body: &[u8], tail: &[u8]) -> bool {
-    let out = begin_named(i);
-    if out.fd < 0 {
+pub fn write_named<R: Env + Files + Eprint>(rt: &R, i: usize, body: &[u8], tail: &[u8]) -> bool {
+    let mut space = [0u8; OUT_SPACE];
+    let mut part_space = [0u8; PART_SPACE];
+    let Some(mut out) = begin_named(rt, i, &mut space, &mut part_space) else {
         return false;
-    }
-    let is_whole = write_to(out, body) && write_to(out, tail);
-    end(out, is_whole)
+    };
+    let is_whole = write_to(rt, &mut out, body) && write_to(rt, &mut out, tail);
+    end(rt, out, is_whole)
 }

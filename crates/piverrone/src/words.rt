@@ -1,8 +1,9 @@
 // What the program reads and writes in words: on standard output what was done, on standard error what was not.
 ghost use Rattle.std.specs.Prelude.{◌≤◌, length};
 
-use libc::{STDERR_FILENO, STDOUT_FILENO};
 use record::reader::Record;
+use crate::reasons;
+use std::io;
 
 pub const UNKNOWN: u8 = 0;
 
@@ -20,19 +21,19 @@ pub const RECORDS: u8 = 5;
 const BYTES_AFTER: u8 = 15;
 
 pub fn command(word: &[u8]) -> u8 {
-    if check::same(word, b"seal") {
+    if word == b"seal".as_slice() {
         return SEAL;
     }
-    if check::same(word, b"open") {
+    if word == b"open".as_slice() {
         return OPEN;
     }
-    if check::same(word, b"rows") {
+    if word == b"rows".as_slice() {
         return ROWS;
     }
-    if check::same(word, b"pieces") {
+    if word == b"pieces".as_slice() {
         return PIECES;
     }
-    if check::same(word, b"records") {
+    if word == b"records".as_slice() {
         return RECORDS;
     }
     UNKNOWN
@@ -43,152 +44,156 @@ pub fn is_on_files(command: u8) -> bool {
     command == SEAL || command == OPEN || command == PIECES
 }
 
-fn warn(text: &[u8]) {
-    io::write_all(STDERR_FILENO, text);
+// Where standard error can't be written, there is nobody to tell.
+fn warn(rt: &impl Eprint, text: &str) {
+    let _ = rt.eprint(text);
 }
 
-fn say(text: &[u8]) -> bool {
-    io::write_all(STDOUT_FILENO, text)
-}
-
-fn number(fd: i32, label: &[u8], value: usize) -> bool {
-    io::write_all(fd, label) && io::print_decimal(fd, value as u64)
-}
-
-pub fn usage() {
-    warn(b"usage: piverrone seal SUITE KEYFILE NONCEFILE DATAFILE IN OUT\n");
-    warn(b"       piverrone open SUITE KEYFILE NONCEFILE DATAFILE IN OUT\n");
-    warn(b"       piverrone pieces SUITE KEYFILE NONCEFILE DATAFILE IN OUT\n");
-    warn(b"       piverrone rows SUITE DATA-BYTES MESSAGE-BYTES\n");
-    warn(b"       piverrone records FILE\n");
+pub fn usage(rt: &impl Eprint) {
+    warn(rt, "usage: piverrone seal SUITE KEYFILE NONCEFILE DATAFILE IN OUT\n");
+    warn(rt, "       piverrone open SUITE KEYFILE NONCEFILE DATAFILE IN OUT\n");
+    warn(rt, "       piverrone pieces SUITE KEYFILE NONCEFILE DATAFILE IN OUT\n");
+    warn(rt, "       piverrone rows SUITE DATA-BYTES MESSAGE-BYTES\n");
+    warn(rt, "       piverrone records FILE\n");
     warn(
-        b"OUT is written where standard output says sealed or opened. For an exit status run tools/piverrone.\n",
+        rt,
+        "OUT is written where standard output says sealed or opened. For an exit status run tools/piverrone.\n",
     );
 }
 
 // A refusal, by its number and in words.
-fn refusal(refusal: u8) {
-    number(STDERR_FILENO, b"refused: ", refusal as usize);
-    warn(b", ");
-    reason(refusal);
+fn refusal(rt: &impl Eprint, refusal: u8) {
+    let _ = eprint!(rt; "refused: {refusal}, ");
+    warn(rt, reason(refusal));
 }
 
-pub fn refused(number: u8) {
-    refusal(number);
-    warn(b"\n");
+pub fn refused(rt: &impl Eprint, number: u8) {
+    refusal(rt, number);
+    warn(rt, "\n");
 }
 
 // A refused bundle: the record that can't be read, counted from one, and the place of its first byte.
-pub fn refused_at(refused: u8, record: usize, at: usize) {
-    refusal(refused);
-    warn(b":");
+pub fn refused_at(rt: &impl Eprint, refused: u8, record: usize, at: usize) {
+    refusal(rt, refused);
+    warn(rt, ":");
     if refused != BYTES_AFTER {
-        number(STDERR_FILENO, b" record ", record);
+        let _ = eprint!(rt; " record {record}");
     }
-    number(STDERR_FILENO, b" at ", at);
-    warn(b"\n");
+    let _ = eprintln!(rt; " at {at}");
 }
 
-fn reason(number: u8) {
+fn reason(number: u8) -> &'static str {
     match number {
-        1 => warn(b"the suite is not 1 to 4 (by pieces: 1 or 2)"),
-        2 => warn(b"the key's length is not the suite's"),
-        3 => warn(b"the nonce's length is not the suite's"),
-        4 => warn(b"the data is over 1048576 bytes"),
-        5 => warn(b"the message or ciphertext is over 1048576 bytes"),
-        6 => warn(b"the tag is not 16 bytes"),
-        7 => warn(b"the tag is not the computed one"),
-        8 => warn(b"the last piece was taken before"),
+        1 => "the suite is not 1 to 4 (by pieces: 1 or 2)",
+        2 => "the key's length is not the suite's",
+        3 => "the nonce's length is not the suite's",
+        4 => "the data is over 1048576 bytes",
+        5 => "the message or ciphertext is over 1048576 bytes",
+        6 => "the tag is not 16 bytes",
+        7 => "the tag is not the computed one",
+        8 => "the last piece was taken before",
         _ => bundle_reason(number),
     }
 }
 
-fn bundle_reason(number: u8) {
+fn bundle_reason(number: u8) -> &'static str {
     match number {
-        10 => warn(b"bytes are missing"),
-        11 => warn(b"a field's tag is not the one that comes next"),
-        12 => warn(b"a field's length is not allowed"),
-        13 => warn(b"the suite is not 1 to 4 or the row not 1 to 20"),
-        BYTES_AFTER => warn(b"there are bytes after record 64"),
-        _ => warn(b"for which this program has no words"),
+        10 => "bytes are missing",
+        11 => "a field's tag is not the one that comes next",
+        12 => "a field's length is not allowed",
+        13 => "the suite is not 1 to 4 or the row not 1 to 20",
+        BYTES_AFTER => "there are bytes after record 64",
+        _ => "for which this program has no words",
     }
 }
 
 // An OUT that is a folder, a device, a pipe or a link.
-pub fn not_regular(path: &[u8]) {
-    warn(path);
-    warn(b": it is not a regular file\n");
+pub fn not_regular(rt: &impl Eprint, path: &str) {
+    warn(rt, path);
+    warn(rt, ": it is not a regular file\n");
+}
+
+// What failed, and the system's reason.
+pub fn failed(rt: &impl Eprint, what: &str, error: io::Error) {
+    warn(rt, what);
+    warn(rt, ": ");
+    reasons::tell(rt, error);
+    warn(rt, "\n");
 }
 
 // Whether all was written. Where it was not, that is told.
-fn told(all: bool) -> bool {
-    if !all {
-        os::fail(b"standard output");
+fn told(rt: &impl Eprint, all: io::Result<()>) -> bool {
+    match all {
+        Ok(()) => true,
+        Err(error) => {
+            failed(rt, "standard output", error);
+            false
+        }
     }
-    all
 }
 
 // What was done, and its number of rows or records.
-pub fn done(what: &[u8], count: usize) -> bool {
-    told(number(STDOUT_FILENO, what, count) && say(b"\n"))
+pub fn done(rt: &(impl Print + Eprint), what: &str, count: usize) -> bool {
+    told(rt, println!(rt; "{what}{count}"))
 }
 
-pub fn heading(opening: bool) -> bool {
-    if opening {
-        told(say(b"opening\n"))
-    } else {
-        told(say(b"sealing\n"))
-    }
+pub fn heading(rt: &(impl Print + Eprint), opening: bool) -> bool {
+    told(rt, rt.println(if opening { "opening" } else { "sealing" }))
 }
 
-fn kind(kind: u8) -> bool {
+fn kind(kind: u8) -> &'static str {
     match kind {
-        risk::DATA => say(b" data "),
-        risk::MESSAGE => say(b" message "),
-        risk::TAG => say(b" tag "),
-        risk::KEYSTREAM => say(b" keystream "),
-        _ => say(b" unknown "),
+        risk::DATA => "data",
+        risk::MESSAGE => "message",
+        risk::TAG => "tag",
+        risk::KEYSTREAM => "keystream",
+        _ => "unknown",
     }
 }
 
-fn extent(partial: bool) -> bool {
-    if partial {
-        say(b" partial\n")
-    } else {
-        say(b" whole\n")
-    }
+fn extent(partial: bool) -> &'static str {
+    if partial { "partial" } else { "whole" }
 }
 
 // A row of a risk table, numbered from one.
-pub fn row(number: usize, label: risk::Label) -> bool {
-    told(
-        io::print_decimal(STDOUT_FILENO, number as u64)
-            && kind(label.kind)
-            && io::print_decimal(STDOUT_FILENO, label.number as u64)
-            && extent(label.partial),
-    )
+pub fn row(rt: &(impl Print + Eprint), number: usize, label: risk::Label) -> bool {
+    let kind = kind(label.kind);
+    let block = label.number;
+    let extent = extent(label.partial);
+    told(rt, println!(rt; "{number} {kind} {block} {extent}"))
 }
 
 // A note in quotes. Each of its bytes is shown by up to four.
-fn note(note: &[u8]) -> bool
+fn note(rt: &impl Print, note: &[u8]) -> io::Result<()>
     requires { length note.now ≤ 1024 }
 {
-    let mut space = io::buffer();
+    let mut space = [0u8; 4096];
     let n = quoted::spell(note, &mut space);
-    say(b" note \"") && say(&space[..n]) && say(b"\"")
+    rt.print(" note \"")?;
+    rt.write_all(&space[..n])?;
+    rt.print("\"")
+}
+
+fn parts(rt: &impl Print, count: usize, found: Record, text: &[u8], at: usize) -> io::Result<()>
+    requires { length text.now ≤ 1024 }
+{
+    let row = found.row;
+    let suite = found.suite;
+    let length = found.cipher_length;
+    print!(rt; "{count} row {row} suite {suite}")?;
+    note(rt, text)?;
+    println!(rt; " ciphertext {length} at {at}")
 }
 
 // A record of a bundle, counted from one, with its note and its place.
-pub fn sealed_row(count: usize, found: Record, text: &[u8], at: usize) -> bool
+pub fn sealed_row(
+    rt: &(impl Print + Eprint),
+    count: usize,
+    found: Record,
+    text: &[u8],
+    at: usize,
+) -> bool
     requires { length text.now ≤ 1024 }
 {
-    told(
-        number(STDOUT_FILENO, b"", count)
-            && number(STDOUT_FILENO, b" row ", found.row as usize)
-            && number(STDOUT_FILENO, b" suite ", found.suite as usize)
-            && note(text)
-            && number(STDOUT_FILENO, b" ciphertext ", found.cipher_length)
-            && number(STDOUT_FILENO, b" at ", at)
-            && say(b"\n"),
-    )
+    told(rt, parts(rt, count, found, text, at))
 }

@@ -11,7 +11,7 @@ use lib.Seq.{take_at, drop_at, take_all}
 use Rattle.octets.specs.Octets.{pick, ◌⊕◌, zero_block, padded}
 use Rattle.tweakey.specs.Tweakey.{expanded}
 use Rattle.tweakey.specs.declared.Subkeys.{Subkeys}
-use Rattle.tweaks.specs.Tweaks.{numbered}
+use Rattle.tweaks.specs.Tweaks.{numbered, nonce_tweak}
 use Rattle.modes.specs.Rows.{Row, enciphered, deciphered, partial_row, text_rows, data_rows, blocks, absorbed, Outcome}
 use Rattle.deoxys_i.specs.DeoxysI as I
 use Rattle.deoxys_ii.specs.DeoxysII as II
@@ -59,7 +59,7 @@ module _ {k : Subkeys} where
   over_message : (call : List ℕ → List ℕ → Row) → ((t b : List ℕ) → Call k (call t b)) → (nonce : List ℕ) (n i : ℕ) (s : List ℕ)
       → Calls k (I.message_rows call k nonce n i s)
   unfolding I.message_rows
-  over_message call c nonce zero i s = partial _ (λ b. Call.enciphers refl) s
+  over_message call c nonce zero i s = partial (λ p. enciphered k (nonce_tweak 4 nonce i) zero_block) (λ b. Call.enciphers refl) s
   over_message call c nonce (suc n) i s = Calls.one_more (c _ _) (over_message call c nonce n (i + 1) (drop 16 s))
 
   keystream : (tag nonce : List ℕ) (n j : ℕ) → Calls k (II.keystream_from k tag nonce n j)

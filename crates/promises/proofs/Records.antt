@@ -24,26 +24,7 @@ use Rattle.record.proofs.Bundles.{was_refused, was_read}
 use Rattle.record.proofs.Sizes.{written-length}
 use Rattle.record.proofs.WholeRecord.{Good, rules_short, nonce_short}
 use Rattle.record.proofs.Writings.{suite_number, row_then, head_refuses, texts_refuse, nonce_other, note_long, cipher_long, tag_other, texts_fit}
-use Rattle.promises.specs.Records.{
-  Takes,
-  Gives,
-  RefusedGivesNoRecord,
-  Leaves,
-  RefusedWritesNothing,
-  NoPlacePastTheEnd,
-  Within,
-  PlacesLieWithin,
-  ChecksInOrder,
-  ReadFieldByField,
-  InRange,
-  WritesInOrder,
-  WrittenFieldByField,
-  Longest,
-  DataTellsRowAndNote,
-  OpensFrom,
-  SealedRowComesBack,
-  OneOutcomeOfRecords,
-}
+use Rattle.promises.specs.Records.{RefusedGivesNoRecord, Leaves, RefusedWritesNothing, NoPlacePastTheEnd, Within, PlacesLieWithin, ChecksInOrder, ReadFieldByField, InRange, WritesInOrder, WrittenFieldByField, Longest, DataTellsRowAndNote, SealedRowComesBack, OneOutcomeOfRecords}
 use Rattle.promises.proofs.Promises.{round_trip}
 use Rattle.promises.proofs.RecordViews.{Outcome, laid, short, bad, outcome, write_outcome, good_takes, takes_good, in_bounds}
 use Rattle.promises.proofs.RecordsBothWays.{reads_what_was_written}

@@ -20,24 +20,7 @@ use Rattle.fields.proofs.Readings.{then_got}
 use Rattle.record.proofs.Bundles.{was_refused, no_bytes}
 use Rattle.record.proofs.Sizes.{written-length}
 use Rattle.record.proofs.WholeRecord.{Good, read_back, accepted_record, record_not_zero}
-use Rattle.promises.specs.Records.{
-  Takes,
-  Gives,
-  content_in,
-  ReadsWhatWasWritten,
-  Rewritten,
-  WrittenIsWhatIsAccepted,
-  NoTwoWays,
-  RowRead,
-  RowReadIsTheRowWritten,
-  AllTaken,
-  ReadsTheBundleThatWasWritten,
-  WasWritten,
-  WrittenIsTheBundleThatIsAccepted,
-  NoTwoWaysForABundle,
-  BytesAfterRecord64,
-  BundleRefusedByItsRecord,
-}
+use Rattle.promises.specs.Records.{Takes, Gives, content_in, ReadsWhatWasWritten, Rewritten, WrittenIsWhatIsAccepted, NoTwoWays, RowReadIsTheRowWritten, AllTaken, ReadsTheBundleThatWasWritten, WasWritten, WrittenIsTheBundleThatIsAccepted, NoTwoWaysForABundle, BytesAfterRecord64, BundleRefusedByItsRecord}
 use Rattle.promises.proofs.RecordViews.{Outcome, laid, short, bad, write_outcome, good_takes, takes_good, done_good, lies, reads_written, in_bounds, seen}
 
 -- ---- one record

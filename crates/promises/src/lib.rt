@@ -2,4 +2,3 @@
 // operations, of `deoxys`, `pieces` and `record`, tie the statements to the code.
 
 #![tactic(auto)]
-

@@ -6,7 +6,7 @@ use Prim.Native.Nat.{ℕ, ◌+◌, ◌*◌, ◌/◌, ◌%◌, ◌≤◌, ◌<◌
 use native.Mathlib.Numerals.{add-one}
 use native.Mathlib.Omega.{arith}
 use lib.ListN.{length, take, drop, get_or, length-append, drop_of_length-le}
-use lib.Seq.{drop-cons, length-take-le, take_at, take-length}
+use lib.Seq.{drop-cons, length-take-le, take_at}
 use borrow.Author.Tests.{le-leb, lt-leb, ne_eqb}
 use Rattle.quoted.specs.Quoted.{digit, spelling, quoted}
 
@@ -44,11 +44,11 @@ module _ (x : ℕ) where
 -- ---- a note
 
 -- the spelling of a byte laid at a place, as a copy leaves it
-pub spelling_laid : (d rest bytes last : List ℕ) (at n x : ℕ) → at ≤ length d → bytes ≡ spelling x → n ≡ length bytes
-    → last ≡ take (length bytes) bytes ++ drop (length bytes) rest → take (at + n) (take at d ++ last) ≡ take at d ++ spelling x
-spelling_laid d rest bytes last at n x h e k l =
+pub spelling_laid : (d bytes rest : List ℕ) (at n x : ℕ) → at ≤ length d → bytes ≡ spelling x → n ≡ length bytes
+    → take (at + n) (take at d ++ (bytes ++ rest)) ≡ take at d ++ spelling x
+spelling_laid d bytes rest at n x h e k =
     let size : length (take at d ++ bytes) ≡ at + n = length-append (take at d) bytes ∙ rw (length-take-le at d h, k) in
-    rw (l, take-length bytes, ← append_assoc (take at d) bytes (drop (length bytes) rest), take_at (take at d ++ bytes) (drop (length bytes) rest) (at + n) size, e)
+    rw (← append_assoc (take at d) bytes rest, take_at (take at d ++ bytes) rest (at + n) size, e)
 
 -- before byte i: what lies in front of the place, and the spelling of what is left, are the whole
 pub record Laid (note d : List ℕ) (at i : ℕ) : Type 0 where

@@ -84,7 +84,9 @@ fn put(destination: &mut [u8], at: usize, byte: u8) -> usize
     let shown = spelt(byte);
     let bytes = shown.bytes;
     let n = shown.length;
-    at + bytes::copy(&bytes[..n], &mut destination[at..])
+    let end = at + n;
+    destination[at..end].copy_from_slice(&bytes[..n]);
+    end
 }
 
 // Lays a note's spelling at the start of the destination; its length. With the last `ensures` a caller lends it without a proof file.

@@ -9,11 +9,11 @@ use native.Mathlib.Omega.{arith}
 use lib.Dec.{eqb}
 use lib.ListN.{length, drop, length-drop}
 use borrow.Author.Tests.{lt-ltb, le-ltb, le-leb, lt-leb}
-use Rattle.octets.specs.Octets.{pick, blocks_of}
+use Rattle.octets.specs.Octets.{pick, blocks_of, padded, zero_block}
 use Rattle.tweakey.specs.Tweakey.{expanded}
 use Rattle.tweakey.specs.declared.Subkeys.{Subkeys}
 use Rattle.tweaks.specs.Tweaks.{numbered, nonce_tweak, keystream_tweak}
-use Rattle.modes.specs.Rows.{Row, deciphered, Outcome, partial_row, text_rows, auth_rows, data_rows}
+use Rattle.modes.specs.Rows.{Row, enciphered, deciphered, Outcome, partial_row, text_rows, auth_rows, data_rows}
 use Rattle.suites.specs.Suites.{is_deoxys_i}
 use Rattle.risk.specs.declared.Label.{Label}
 use Rattle.risk.specs.Labels.{block_labels, text_labels, tag_label, keystream_labels, labels, opening_labels}
@@ -89,7 +89,8 @@ module _ {f : Label → List ℕ} {d : Label → Bool} {kind : ℕ} (k : Subkeys
   text_calls : (byte last : ℕ) (s : List ℕ) → Gives f d kind (numbered byte) (numbered last) false → (n i : ℕ) → 16 * (n + i) ≤ length s
       → length s < 16 * (n + i) + 16 → InStep k f d (text_rows k byte last s n i) (block_labels kind (length s) (blocks_of (length s) - i) i)
   unfolding text_rows
-  text_calls byte last s g zero i l h = ending g k _ i _ (drop (16 * i) s) (λ p. refl) (length-drop (16 * i) s) (omega arith) (omega arith)
+  text_calls byte last s g zero i l h =
+      ending g k _ i (λ p. enciphered k (numbered last i) (padded p)) (drop (16 * i) s) (λ p. refl) (length-drop (16 * i) s) (omega arith) (omega arith)
   text_calls byte last s g (suc n) i l h = turn g k _ i _ _ (omega arith) (text_calls byte last s g n (i + 1) (omega arith) (omega arith))
 
   -- Auth, over the data and in Deoxys-II over the message
@@ -101,7 +102,8 @@ module _ {f : Label → List ℕ} {d : Label → Bool} {kind : ℕ} (k : Subkeys
     message_calls : (bytes n i : ℕ) (s : List ℕ) → length s ≡ bytes - 16 * i → 16 * (n + i) ≤ bytes → bytes < 16 * (n + i) + 16
         → InStep k f d (I.message_rows (direction way k) k nonce n i s) (block_labels kind bytes (blocks_of bytes - i) i)
     unfolding I.message_rows
-    message_calls bytes zero i s e l h = ending g k bytes i _ s (λ p. refl) e (omega arith) (omega arith)
+    message_calls bytes zero i s e l h =
+        ending g k bytes i (λ p. enciphered k (nonce_tweak 4 nonce i) zero_block) s (λ p. refl) e (omega arith) (omega arith)
     message_calls bytes (suc n) i s e l h =
         let c : length (drop 16 s) ≡ bytes - 16 * (i + 1) = length-drop 16 s ∙ omega arith in
         turn g k bytes i _ _ (omega arith) (message_calls bytes n (i + 1) (drop 16 s) c (omega arith) (omega arith))

@@ -4,7 +4,6 @@ use mathlib.Core.Path.{refl}
 use borrow.Author.Rules.{rules}
 use Rattle.octets.specs.Octets.{each_byte}
 use Rattle.octets.proofs.Tables.{filled_none, filled_more, filled_all}
-use Rattle.field.specs.Field.{double}
 use Rattle.aes.proofs.double_bytes.Goals as goal
 
 pub loop-i-init : goal.loop-i-init

@@ -4,7 +4,7 @@ use mathlib.Core.Path.{refl, ◌∙◌}
 use borrow.Author.Rules.{rules}
 use Rattle.octets.specs.Octets.{table}
 use Rattle.octets.proofs.Tables.{filled_none, filled_more, filled_all}
-use Rattle.aes.specs.Round.{mix_byte, mix_columns}
+use Rattle.aes.specs.Round.{mix_columns}
 use Rattle.aes.proofs.mix_columns.Goals as goal
 
 pub loop-i-init : goal.loop-i-init

@@ -16,11 +16,11 @@ seal-requires c =
 
 pub returns-then-suite-le2 : goal.returns-then-suite-le2
 returns-then-suite-le2 c = rw (
-      c.seal.ensures.buffer_after,
-      c.seal.ensures.value,
-      c.precompute_subkeys-k.ensures,
-      sealed_i _ _ _ _ _ c.if-suite-le2.true,
-    )
+  c.seal.ensures.buffer_after,
+  c.seal.ensures.value,
+  c.precompute_subkeys-k.ensures,
+  sealed_i _ _ _ _ _ c.if-suite-le2.true,
+)
     (record { value = refl; buffer_after = refl })
 
 pub seal-requires-2 : goal.seal-requires-2
@@ -30,9 +30,9 @@ seal-requires-2 c =
 
 pub returns : goal.returns
 returns c = rw (
-      c.seal-2.ensures.buffer_after,
-      c.seal-2.ensures.value,
-      c.precompute_subkeys-k.ensures,
-      sealed_ii _ _ _ _ _ c.if-suite-le2.false,
-    )
+  c.seal-2.ensures.buffer_after,
+  c.seal-2.ensures.value,
+  c.precompute_subkeys-k.ensures,
+  sealed_ii _ _ _ _ _ c.if-suite-le2.false,
+)
     (record { value = refl; buffer_after = refl })

@@ -31,11 +31,14 @@ tag-requires c =
 pub returns : goal.returns
 unfolding open_i zero_block
 returns c =
-    let a = c.args in record { value = rw (
-    c.tag.ensures,
-    c.checksum-recovered_sum.ensures,
-    c.crypt_message-count.ensures.buffer_after,
-    c.crypt_message-count.ensures.value,
-    c.compute_ad_tag-tally.ensures,
-  )
-      (opened_i a.k a.nonce.now a.ad.now a.buffer.now); buffer_after = c.crypt_message-count.ensures.buffer_after }
+    let a = c.args in record {
+      value = rw (
+        c.tag.ensures,
+        c.checksum-recovered_sum.ensures,
+        c.crypt_message-count.ensures.buffer_after,
+        c.crypt_message-count.ensures.value,
+        c.compute_ad_tag-tally.ensures,
+      )
+          (opened_i a.k a.nonce.now a.ad.now a.buffer.now);
+      buffer_after = c.crypt_message-count.ensures.buffer_after;
+    }

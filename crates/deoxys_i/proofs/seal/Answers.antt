@@ -28,10 +28,13 @@ tag-requires c =
 pub returns : goal.returns
 unfolding seal_i zero_block
 returns c =
-    let a = c.args in record { value = rw (
-    c.tag.ensures,
-    c.crypt_message-count.ensures.value,
-    c.checksum-sum.ensures,
-    c.compute_ad_tag-tally.ensures,
-  )
-      (sealed_i a.k a.nonce.now a.ad.now a.buffer.now _ c.crypt_message-count.auto.buffer); buffer_after = c.crypt_message-count.ensures.buffer_after }
+    let a = c.args in record {
+      value = rw (
+        c.tag.ensures,
+        c.crypt_message-count.ensures.value,
+        c.checksum-sum.ensures,
+        c.compute_ad_tag-tally.ensures,
+      )
+          (sealed_i a.k a.nonce.now a.ad.now a.buffer.now _ c.crypt_message-count.auto.buffer);
+      buffer_after = c.crypt_message-count.ensures.buffer_after;
+    }

@@ -16,8 +16,8 @@ nonce_tweak-tweak-requires c = (rw c.tag_kind.ensures (kind_lt (eqb (c.args.byte
 
 pub returns : goal.returns
 returns c = rw (
-      c.xor_block-tag.ensures,
-      c.encipher-called.ensures,
-      c.nonce_tweak-tweak.ensures,
-      c.tag_kind.ensures,
-    )
+  c.xor_block-tag.ensures,
+  c.encipher-called.ensures,
+  c.nonce_tweak-tweak.ensures,
+  c.tag_kind.ensures,
+)

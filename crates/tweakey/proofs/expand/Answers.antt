@@ -8,7 +8,7 @@ use borrow.Author.Rules.{rules}
 use Rattle.octets.proofs.Tables.{byte, table_tested}
 use Rattle.octets.specs.Octets.{Block}
 use Rattle.field.specs.Field.{double}
-use Rattle.tweakey.specs.Tweakey.{places, tk3, tk2, round_constant, constant_block}
+use Rattle.tweakey.specs.Tweakey.{places, tk3, tk2, round_constant}
 use Rattle.tweakey.proofs.Flat.{flat_turn, flat-none}
 use Rattle.tweakey.proofs.Tweakeys.{tk3_step, tk2_step, key_part_length}
 use Rattle.tweakey.proofs.expand.Goals as goal

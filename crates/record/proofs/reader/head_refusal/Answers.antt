@@ -25,10 +25,10 @@ returns-then-row-ne0 c = row_refused _ _ c.read_field-suite.ensures c.if-suite-n
 
 pub pair-requires : goal.pair-requires
 pair-requires c = search (
-      row_room _ _ c.read_field-suite.ensures c.if-suite-ne0.false _ (rw c.wide.ensures.0 at c.range_refusal-range.ensures)
-          c.if-range-ne0.false _ c.read_field-row.ensures c.if-row-ne0.false,
-      rules,
-    )
+  row_room _ _ c.read_field-suite.ensures c.if-suite-ne0.false _ (rw c.wide.ensures.0 at c.range_refusal-range.ensures)
+      c.if-range-ne0.false _ c.read_field-row.ensures c.if-row-ne0.false,
+  rules,
+)
 
 pub returns : goal.returns
 returns c = row_range _ _ c.read_field-suite.ensures c.if-suite-ne0.false _ (rw c.wide.ensures.0 at c.range_refusal-range.ensures) c.if-range-ne0.false _

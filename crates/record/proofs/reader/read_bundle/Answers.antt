@@ -5,7 +5,6 @@ use mathlib.Core.Path.{◌∙◌}
 use Prim.Native.Nat.{◌+◌}
 use native.Mathlib.Omega.{arith}
 use borrow.Author.Rules.{rules}
-use lib.ListN.{length}
 use Rattle.record.proofs.reader.read_bundle.Goals as goal
 
 pub loop-at-init : goal.loop-at-init

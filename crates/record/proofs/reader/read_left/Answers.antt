@@ -1,10 +1,7 @@
 -- `record::reader::read_left` meets its contract: the head's number, the texts' number, or the record and its places.
 -- Assumes nothing.
-use Rattle.record.proofs.RecordAt.{head_refused, texts_refused, record_room, record_read}
-use Prim.Native.Nat.{◌+◌, ◌≤◌}
+use Rattle.record.proofs.RecordAt.{head_refused, texts_refused, record_read}
 use native.Mathlib.Omega.{arith}
-use lib.ListN.{length}
-use borrow.Author.Rules.{rules}
 use Rattle.record.proofs.reader.read_left.Goals as goal
 
 pub returns-then-number-ne0 : goal.returns-then-number-ne0

@@ -1,10 +1,7 @@
 -- `record::reader::read_texts` meets its contract: four fields, each at the place where the one before it ended.
 -- Assumes nothing.
-use Rattle.record.proofs.TextFields.{nonce_refused, nonce_end, note_refused, note_end, cipher_refused, cipher_end, tag_refused, all_read}
+use Rattle.record.proofs.TextFields.{nonce_refused, note_refused, cipher_refused, tag_refused, all_read}
 use mathlib.Core.Path.{refl}
-use Prim.Native.Nat.{◌+◌, ◌≤◌}
-use lib.ListN.{length}
-use borrow.Author.Rules.{rules}
 use Rattle.record.proofs.reader.read_texts.Goals as goal
 
 pub returns-then-first-ne0 : goal.returns-then-first-ne0

@@ -2,7 +2,6 @@
 -- Assumes nothing.
 use Rattle.record.proofs.Writings.{six_laid}
 use native.Mathlib.Omega.{arith}
-use borrow.Author.Rules.{rules}
 use Rattle.record.proofs.writer.lay.Goals as goal
 
 pub returns : goal.returns
