@@ -145,6 +145,7 @@ impl Tally {
     }
 
     // A list that has no case, or that could not be read, compares nothing.
+    #[tactic(auto, unfolding(crate::specs::Tally::with_a_case))]
     pub fn with_a_case(self) -> Tally
         ensures { result ≡ with_a_case self }
     {

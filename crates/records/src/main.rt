@@ -18,12 +18,7 @@ use std::rt::Files;
 const ROOM: usize = 65536;
 
 // The calls in the order of their numbers.
-const CALLS: [&str; 4] = [
-    "writing",
-    "writing row data",
-    "reading",
-    "reading a bundle",
-];
+const CALLS: [&str; 4] = ["writing", "writing row data", "reading", "reading a bundle"];
 
 // The case on a line: its first word says what is called.
 fn replayed(text: &[u8], line: usize, tally: Tally) -> Tally {
