@@ -18,7 +18,7 @@ use std::rt::Files;
 const ROOM: usize = 65536;
 
 // The calls in the order of their numbers.
-const CALLS: [&str; 3] = ["beginning", "taking a piece", "finishing"];
+const CALLS: &[u8] = b"beginning\ntaking a piece\nfinishing";
 
 // The field with a line's first script, by the line's first word; no line reaches so far where the word is neither.
 fn first_script(text: &[u8]) -> usize {
@@ -79,18 +79,18 @@ fn lines(text: &[u8]) -> Tally {
 }
 
 // Replays the list in a file and writes a line on it.
-fn list(rt: &(impl Files + Print + Eprint), name: &str) -> io::Result<Tally> {
+fn list(rt: &(impl Files + Print + Eprint), name: &[u8]) -> io::Result<Tally> {
     let mut text = [0u8; ROOM];
     let n = files::read(rt, name, &mut text)?;
-    report::list(rt, name, &CALLS, lines(&text[..n]))
+    report::list(rt, name, CALLS, lines(&text[..n]))
 }
 
 // The spoilt list shows that a difference is told; it is no part of the total.
 fn main(rt: HostRuntime) -> io::Result<()> {
-    list(&rt, "spoilt.txt")?;
-    let mut total = list(&rt, "cuttings.txt")?;
-    total = total.and(list(&rt, "stages.txt")?);
-    total = total.and(list(&rt, "limits.txt")?);
+    list(&rt, b"spoilt.txt")?;
+    let mut total = list(&rt, b"cuttings.txt")?;
+    total = total.and(list(&rt, b"stages.txt")?);
+    total = total.and(list(&rt, b"limits.txt")?);
     report::total(&rt, total)?;
     Ok(())
 }

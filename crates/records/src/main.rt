@@ -18,7 +18,7 @@ use std::rt::Files;
 const ROOM: usize = 65536;
 
 // The calls in the order of their numbers.
-const CALLS: [&str; 4] = ["writing", "writing row data", "reading", "reading a bundle"];
+const CALLS: &[u8] = b"writing\nwriting row data\nreading\nreading a bundle";
 
 // The case on a line: its first word says what is called.
 fn replayed(text: &[u8], line: usize, tally: Tally) -> Tally {
@@ -56,19 +56,19 @@ fn lines(text: &[u8]) -> Tally {
 }
 
 // Replays the list in a file and writes a line on it.
-fn list(rt: &(impl Files + Print + Eprint), name: &str) -> io::Result<Tally> {
+fn list(rt: &(impl Files + Print + Eprint), name: &[u8]) -> io::Result<Tally> {
     let mut text = [0u8; ROOM];
     let n = files::read(rt, name, &mut text)?;
-    report::list(rt, name, &CALLS, lines(&text[..n]))
+    report::list(rt, name, CALLS, lines(&text[..n]))
 }
 
 // The spoilt list shows that a difference is told; it is no part of the total.
 fn main(rt: HostRuntime) -> io::Result<()> {
-    list(&rt, "spoilt.txt")?;
-    let mut total = list(&rt, "written.txt")?;
-    total = total.and(list(&rt, "read.txt")?);
-    total = total.and(list(&rt, "damaged.txt")?);
-    total = total.and(list(&rt, "bundles.txt")?);
+    list(&rt, b"spoilt.txt")?;
+    let mut total = list(&rt, b"written.txt")?;
+    total = total.and(list(&rt, b"read.txt")?);
+    total = total.and(list(&rt, b"damaged.txt")?);
+    total = total.and(list(&rt, b"bundles.txt")?);
     report::total(&rt, total)?;
     Ok(())
 }

@@ -18,7 +18,7 @@ const ROOM: usize = 1048592;
 const LIST: usize = 65536;
 
 // The calls in the order of their numbers.
-const CALLS: [&str; 2] = ["sealing", "opening"];
+const CALLS: &[u8] = b"sealing\nopening";
 
 // One line more, if it is a case.
 fn line(text: &[u8], number: usize, tally: Tally, data: &[u8], buffer: &mut [u8]) -> Tally {
@@ -40,13 +40,13 @@ fn lines(text: &[u8], data: &[u8], buffer: &mut [u8]) -> Tally {
 // Replays the list in a file and writes a line on it.
 fn list(
     rt: &(impl Files + Print + Eprint),
-    name: &str,
+    name: &[u8],
     data: &[u8; ROOM],
     buffer: &mut [u8; ROOM],
 ) -> io::Result<Tally> {
     let mut text = [0u8; LIST];
     let n = files::read(rt, name, &mut text)?;
-    report::list(rt, name, &CALLS, lines(&text[..n], data, buffer))
+    report::list(rt, name, CALLS, lines(&text[..n], data, buffer))
 }
 
 fn fill(data: &mut [u8; ROOM]) {
@@ -58,9 +58,9 @@ fn main(rt: HostRuntime) -> io::Result<()> {
     let mut data = [0u8; ROOM];
     let mut buffer = [0u8; ROOM];
     fill(&mut data);
-    list(&rt, "spoilt.txt", &data, &mut buffer)?;
-    let refusals = list(&rt, "refusals.txt", &data, &mut buffer)?;
-    let limits = list(&rt, "limits.txt", &data, &mut buffer)?;
+    list(&rt, b"spoilt.txt", &data, &mut buffer)?;
+    let refusals = list(&rt, b"refusals.txt", &data, &mut buffer)?;
+    let limits = list(&rt, b"limits.txt", &data, &mut buffer)?;
     report::total(&rt, refusals.and(limits))?;
     Ok(())
 }

@@ -1,11 +1,11 @@
 // A list is a file. Nothing here says what it holds: that is read as text.
-ghost use Rattle.std.specs.Prelude.{IfOk};
+ghost use Rattle.std.specs.Prelude.{◌≡◌, length, IfOk};
 ghost use Rattle.io.specs.Counts.{IsPrefixLen};
 
 use std::fs::File;
-use std::io;
 use std::io::Read;
 use std::rt::Files;
+use std::{io, str};
 
 // Reads until the text is full or the reader ends, and how many bytes it gave.
 fn filled(file: &mut impl Read, text: &mut [u8]) -> io::Result<usize>
@@ -22,21 +22,31 @@ fn filled(file: &mut impl Read, text: &mut [u8]) -> io::Result<usize>
     Ok(done)
 }
 
-// The file's bytes at the start of `text`, and how many; none, and a word on standard error, where it can't be opened or may be longer than
-// `text`.
-pub fn read(rt: &(impl Files + Eprint), path: &str, text: &mut [u8]) -> io::Result<usize>
-    ensures { IfOk result (λ n. IsPrefixLen n text.new) }
-{
-    let mut file = match File::open(rt, path) {
-        Ok(file) => file,
+// The file, or none and a word on standard error where it can't be opened: std's paths are text.
+fn opened<R: Files + Eprint>(rt: &R, path: &[u8]) -> io::Result<Option<R::File>> {
+    let Ok(path) = str::from_utf8(path) else {
+        eprintln!(rt; "a list's name is no text")?;
+        return Ok(None);
+    };
+    match File::open(rt, path) {
+        Ok(file) => Ok(Some(file)),
         Err(error) => {
             eprintln!(rt; "{path}: {error}")?;
-            return Ok(0);
+            Ok(None)
         }
+    }
+}
+
+// The file's bytes at the start of `text`, and how many; none where it can't be opened or may be longer than `text`.
+pub fn read<R: Files + Eprint>(rt: &R, path: &[u8], text: &mut [u8]) -> io::Result<usize>
+    ensures count { IfOk result (λ n. IsPrefixLen n text.new) }
+    ensures kept_length { length text.new ≡ length text.old }
+{
+    let Some(mut file) = opened(rt, path)? else {
+        return Ok(0);
     };
     let n = filled(&mut file, text)?;
     if n == text.len() {
-        eprintln!(rt; "{path}: longer than a list may be")?;
         return Ok(0);
     }
     Ok(n)

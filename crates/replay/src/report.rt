@@ -2,6 +2,7 @@
 ghost use Rattle.std.specs.Prelude.{◌≡◌, IfOk};
 
 use differences::tally::{Tally, What};
+use lists::text;
 use std::io;
 
 // What differs, in a word.
@@ -18,15 +19,16 @@ fn word(what: What) -> &'static str {
 }
 
 // What differed first, and in which call; a line that is no case has none.
-fn write_first(rt: &impl Print, calls: &[&str], what: What, call: usize) -> io::Result<()> {
+fn write_first(rt: &impl Print, calls: &[u8], what: What, call: usize) -> io::Result<()> {
     print!(rt; "{}", word(what))?;
     if let What::Form = what {
         return Ok(());
     }
-    print!(rt; " in {}", calls.get(call).copied().unwrap_or(""))
+    rt.print(" in ")?;
+    rt.write_all(text::line(calls, call))
 }
 
-fn write_differences(rt: &impl Print, calls: &[&str], tally: Tally) -> io::Result<()> {
+fn write_differences(rt: &impl Print, calls: &[u8], tally: Tally) -> io::Result<()> {
     if tally.differ == 0 {
         return Ok(());
     }
@@ -34,14 +36,12 @@ fn write_differences(rt: &impl Print, calls: &[&str], tally: Tally) -> io::Resul
     write_first(rt, calls, tally.what, tally.call)
 }
 
-// A line for a list. `calls` names the program's calls in the order of their numbers.
-pub fn list(rt: &impl Print, name: &str, calls: &[&str], tally: Tally) -> io::Result<Tally>
+// A line for a list. `calls` names the program's calls in the order of their numbers, one to a line.
+pub fn list(rt: &impl Print, name: &[u8], calls: &[u8], tally: Tally) -> io::Result<Tally>
     ensures { IfOk result (λ t. t ≡ tally) }
 {
-    print!(rt;
-        "{name}: {} cases, {} calls compared",
-        tally.cases, tally.calls
-    )?;
+    rt.write_all(name)?;
+    print!(rt; ": {} cases, {} calls compared", tally.cases, tally.calls)?;
     write_differences(rt, calls, tally)?;
     println!(rt)?;
     Ok(tally)

@@ -14,15 +14,13 @@ use std::rt::Files;
 const ROOM: usize = 65536;
 
 // The calls in the order of their numbers.
-const CALLS: [&str; 7] = [
-    "sealing",
-    "opening",
-    "opening with a changed key",
-    "opening with a changed nonce",
-    "opening with a changed data",
-    "opening with a changed ciphertext",
-    "opening with a changed tag",
-];
+const CALLS: &[u8] = b"sealing
+opening
+opening with a changed key
+opening with a changed nonce
+opening with a changed data
+opening with a changed ciphertext
+opening with a changed tag";
 
 // One line more, if it is a case.
 fn line(text: &[u8], number: usize, tally: Tally) -> Tally {
@@ -42,18 +40,18 @@ fn lines(text: &[u8]) -> Tally {
 }
 
 // Replays the list in a file and writes a line on it.
-fn list(rt: &(impl Files + Print + Eprint), name: &str) -> io::Result<Tally> {
+fn list(rt: &(impl Files + Print + Eprint), name: &[u8]) -> io::Result<Tally> {
     let mut text = [0u8; ROOM];
     let n = files::read(rt, name, &mut text)?;
-    report::list(rt, name, &CALLS, lines(&text[..n]))
+    report::list(rt, name, CALLS, lines(&text[..n]))
 }
 
 // The spoilt list shows that a difference is told; it is no part of the total.
 fn main(rt: HostRuntime) -> io::Result<()> {
-    list(&rt, "spoilt.txt")?;
-    let mut total = list(&rt, "published.txt")?;
-    total = total.and(list(&rt, "crate.txt")?);
-    total = total.and(list(&rt, "lengths.txt")?);
+    list(&rt, b"spoilt.txt")?;
+    let mut total = list(&rt, b"published.txt")?;
+    total = total.and(list(&rt, b"crate.txt")?);
+    total = total.and(list(&rt, b"lengths.txt")?);
     report::total(&rt, total)?;
     Ok(())
 }
