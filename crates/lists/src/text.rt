@@ -140,6 +140,7 @@ pub fn decimal(field: &[u8]) -> Number
 }
 
 // What a hexadecimal digit stands for, in lower case as the lists have it.
+#[tactic(auto, using(crate::proofs::Spelling::glyph_low, crate::proofs::Spelling::glyph_high))]
 fn digit(byte: u8) -> u8
     ensures { result < 16 → hex_digit_ascii result ≡ byte }
 {

@@ -52,6 +52,9 @@ module _ (p : Pieces) where
       pub of_no_key : (p.keys.rounds ≡ 14 → ⊥) → (p.keys.rounds ≡ 16 → ⊥) → false ≡ sound p
       of_no_key h h' = simp (le-leb _ _ h₀, le-leb _ _ h₁, ne_eqb _ _ h, ne_eqb _ _ h')
 
+-- one of these at each return of `is_sound`
+pub ruleset soundness = (many_bytes, many_rows, of_a_short_key, of_a_long_key, of_no_key)
+
 pub record Bounds (p : Pieces) : Type 0 where
   pub few_bytes : p.total ≤ 1048576
   pub few_rows : p.count.rows ≤ 131072

@@ -79,6 +79,7 @@ fn void(number: u8) -> Pieces
 }
 
 // Deoxys-II needs two passes: its suites are none here.
+#[tactic(auto, using(crate::proofs::Refusals::other_suite, crate::proofs::Refusals::own_suite))]
 fn begin_refusal(suite: u8, key: usize, nonce: usize, ad: usize) -> u8
     ensures { result ≡ begin_refusal suite key nonce ad }
 {
@@ -125,6 +126,7 @@ pub fn begin(suite: u8, key: &[u8], nonce: &[u8], ad: &[u8]) -> Pieces
 }
 
 // The stage after a piece of so many bytes.
+#[tactic(auto, using(crate::proofs::Refusals::stays_open, crate::proofs::Refusals::closes))]
 fn stage_after(bytes: usize) -> u8
     ensures { result ≡ pick (eqb (bytes % 16) 0) 0 1 }
 {
@@ -135,6 +137,7 @@ fn stage_after(bytes: usize) -> u8
 }
 
 // 5 where the total would be above the limit. No sum that could wrap: what is left under the limit is compared.
+#[tactic(auto, using(crate::proofs::Refusals::over, crate::proofs::Refusals::not_over))]
 fn length_refusal(total: usize, bytes: usize) -> u8
     ensures { result ≡ pick (ltb limit (total + bytes)) 5 0 }
 {
@@ -160,6 +163,7 @@ fn first_of(number: u8, next: u8) -> u8
 impl Pieces {
     // What holds of a state that a begin and its pieces gave. C can make any: a wiped one has no rounds, and would leave a message nearly as
     // it is.
+    #[tactic(auto, using(crate::proofs::Refusals::soundness))]
     fn is_sound(self) -> bool
         ensures { result ≡ sound self }
     {

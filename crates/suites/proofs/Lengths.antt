@@ -33,3 +33,8 @@ module _ (suite : ℕ) where
 
   pub nonce_none : 4 < suite → 0 ≡ nonce_length suite
   nonce_none h = simp (lt-ltb 0 suite (omega arith), lt-leb _ _ h)
+
+-- one of these at each return of `key_length`, and of `nonce_length`
+pub ruleset keys = (key_1, key_2, key_3, key_4, key_none)
+
+pub ruleset nonces = (nonce_0, nonce_8, nonce_15, nonce_none)

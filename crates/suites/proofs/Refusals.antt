@@ -50,6 +50,9 @@ module _ (suite key nonce ad text : ℕ) where
             unfolding refusal
             none h = rw (eq-eqb _ _ h₂, eq-eqb _ _ h₃, suited, le-ltb _ _ h₄, le-ltb _ _ h)
 
+-- one of these at each return
+pub ruleset in_order = (no_suite_0, no_suite, wrong_key, wrong_nonce, long_data, long_text, none)
+
 -- ---- what holds where nothing is refused
 
 pub record Good (suite key nonce ad text : ℕ) : Type 0 where

@@ -9,6 +9,7 @@ ghost use Rattle.suites.specs.Suites.{key_length, nonce_length, refusal};
 pub const LIMIT: usize = 1048576;
 
 // The length of a suite's key, and 0 for what is no suite.
+#[tactic(auto, using(crate::proofs::Lengths::keys))]
 pub fn key_length(suite: u8) -> usize
     ensures { result ≡ key_length suite }
 {
@@ -28,6 +29,7 @@ pub fn key_length(suite: u8) -> usize
 }
 
 // The length of a suite's nonce, and 0 for what is no suite.
+#[tactic(auto, using(crate::proofs::Lengths::nonces))]
 pub fn nonce_length(suite: u8) -> usize
     ensures { result ≡ nonce_length suite }
 {
@@ -44,6 +46,7 @@ pub fn nonce_length(suite: u8) -> usize
 }
 
 // The first of the numbers 1 to 5 that applies, or 0.
+#[tactic(auto, using(crate::proofs::Refusals::in_order))]
 pub fn refusal(suite: u8, key: usize, nonce: usize, ad: usize, text: usize) -> u8
     ensures { result ≡ refusal suite key nonce ad text }
 {

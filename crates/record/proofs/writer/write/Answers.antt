@@ -3,7 +3,9 @@
 use Rattle.record.proofs.WholeRecord.{nonce_short}
 use Rattle.record.proofs.Writings.{fit}
 use Rattle.record.proofs.WriteReturns.{by_head, by_texts, by_room, by_laying}
-use mathlib.Core.Path.{sym, ◌∙◌}
+use mathlib.Core.Path.{refl, sym, ◌∙◌}
+use Prim.Native.Nat.{◌+◌}
+use lib.ListN.{length}
 use native.Mathlib.Omega.{arith}
 use borrow.Author.Rules.{rules}
 use Rattle.record.proofs.writer.write.Goals as goal
@@ -31,7 +33,8 @@ overflow_add-length-3 c =
 
 pub returns-then-destination-length : goal.returns-then-destination-length
 returns-then-destination-length c = rw c.refused-then-destination-length.ensures (by_room _ _ _ c.head_refusal-number.ensures c.if-number-ne0.false _ c.nonce_length.ensures _
-    c.texts_refusal-number.ensures c.if-number-ne0-2.false _ c.if-destination-length.true (omega arith))
+    c.texts_refusal-number.ensures c.if-number-ne0-2.false (37 + length c.args.nonce.now + length c.args.note.now + length c.args.cipher.now)
+    (omega arith) refl)
 
 pub lay-requires : goal.lay-requires
 lay-requires c =
@@ -46,4 +49,4 @@ lay-requires c =
 
 pub returns : goal.returns
 returns c = by_laying _ _ _ c.head_refusal-number.ensures c.if-number-ne0.false _ c.nonce_length.ensures _ c.texts_refusal-number.ensures c.if-number-ne0-2.false
-    _ _ c.if-destination-length.false c.lay.ensures (omega arith)
+    _ _ (omega arith) c.lay.ensures (omega arith)
