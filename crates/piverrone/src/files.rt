@@ -51,14 +51,16 @@ pub fn large_space() -> [u8; 1048593]
 
 // Reads once.
 fn read_some(file: &mut impl Read, part: &mut [u8]) -> io::Result<usize>
-    ensures { ReadsAtMost result part.new }
+    ensures count { ReadsAtMost result part.new }
+    ensures kept_length { length part.new ≡ length part.old }
 {
     file.read(part)
 }
 
 // Reads until the buffer is full or the file ends.
 fn read_all(file: &mut impl Read, buffer: &mut [u8]) -> io::Result<usize>
-    ensures { ReadsAtMost result buffer.new }
+    ensures count { ReadsAtMost result buffer.new }
+    ensures kept_length { length buffer.new ≡ length buffer.old }
 {
     let mut at: usize = 0;
     while at < buffer.len() {
@@ -130,7 +132,8 @@ pub fn read_from<F: Read>(
     file: &mut In<'_, F>,
     buffer: &mut [u8],
 ) -> Option<usize>
-    ensures { IfSome result (λ count. IsPrefixLen count buffer.new) }
+    ensures count { IfSome result (λ count. IsPrefixLen count buffer.new) }
+    ensures kept_length { length buffer.new ≡ length buffer.old }
 {
     words::or_tell(rt, file.path, read_all(&mut file.file, buffer))
 }
@@ -142,7 +145,8 @@ pub fn read_named(
     word: &str,
     buffer: &mut [u8],
 ) -> Option<usize>
-    ensures { IfSome result (λ count. IsPrefixLen count buffer.new) }
+    ensures count { IfSome result (λ count. IsPrefixLen count buffer.new) }
+    ensures kept_length { length buffer.new ≡ length buffer.old }
 {
     let mut space = [0u8; PATH_SPACE];
     let mut file = open_named(rt, i, word, &mut space)?;

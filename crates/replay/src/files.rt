@@ -22,17 +22,18 @@ fn filled(file: &mut impl Read, text: &mut [u8]) -> io::Result<usize>
     Ok(done)
 }
 
-// The file, or none and a word on standard error where it can't be opened: std's paths are text.
-fn opened<R: Files + Eprint>(rt: &R, path: &[u8]) -> io::Result<Option<R::File>> {
+// The file, or none and a word on standard error where it can't be opened: std's paths are text. Where standard error can't be written, there
+// is nobody to tell.
+fn opened<R: Files + Eprint>(rt: &R, path: &[u8]) -> Option<R::File> {
     let Ok(path) = str::from_utf8(path) else {
-        eprintln!(rt; "a list's name is no text")?;
-        return Ok(None);
+        let _ = eprintln!(rt; "a list's name is no text");
+        return None;
     };
     match File::open(rt, path) {
-        Ok(file) => Ok(Some(file)),
+        Ok(file) => Some(file),
         Err(error) => {
-            eprintln!(rt; "{path}: {error}")?;
-            Ok(None)
+            let _ = eprintln!(rt; "{path}: {error}");
+            None
         }
     }
 }
@@ -42,7 +43,7 @@ pub fn read<R: Files + Eprint>(rt: &R, path: &[u8], text: &mut [u8]) -> io::Resu
     ensures count { IfOk result (λ n. IsPrefixLen n text.new) }
     ensures kept_length { length text.new ≡ length text.old }
 {
-    let Some(mut file) = opened(rt, path)? else {
+    let Some(mut file) = opened(rt, path) else {
         return Ok(0);
     };
     let n = filled(&mut file, text)?;
