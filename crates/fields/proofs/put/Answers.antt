@@ -15,8 +15,7 @@ loop-i-preserved c =
     let a = c.args in
     let l = c.loop-i in (
       put_turn a.destination.now a.body.now a.at _ (search rules) refl l.destination l.i (search rules) l.invariant.0,
-      omega
-          arith,
+      omega arith,
       simp length-set l.invariant.2,
     )
 

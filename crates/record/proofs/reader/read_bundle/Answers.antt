@@ -39,8 +39,7 @@ loop-at-preserved c =
       bundle_next c.args.bytes.now l.at l.records l.invariant.0 c.loop-at-test.true (omega (arith, l.invariant.2, c.if-records-eq-MOST_RECORDS.false))
           f.content (l.at + c.read-record.result.length) f.taken,
       omega (arith, f.within, c.loop-at-test.true),
-      omega
-          (arith, l.invariant.2, c.if-records-eq-MOST_RECORDS.false),
+      omega (arith, l.invariant.2, c.if-records-eq-MOST_RECORDS.false),
     )
 
 pub returns : goal.returns
