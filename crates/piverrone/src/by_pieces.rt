@@ -57,10 +57,10 @@ fn pass_on<F: Write>(
     state: Pieces,
     piece: &mut [u8],
 ) -> Step
-    ensures state_value { result.state ≡ (taking state piece.old).answer.pieces }
+    ensures state_after { result.state ≡ (taking state piece.old).answer.pieces }
     ensures piece_after { piece.new ≡ (taking state piece.old).piece }
-    ensures piece_value { result.whole ≡ true → (taking state piece.old).answer.number ≡ 0 }
-    ensures last_value { result.last ≡ ltb (length piece.old) 4096 }
+    ensures whole_only_if_taken { result.whole ≡ true → (taking state piece.old).answer.number ≡ 0 }
+    ensures last_if_short { result.last ≡ ltb (length piece.old) 4096 }
 {
     let last = piece.len() < PIECE_BYTES;
     let taken = state.take(piece);
