@@ -6,7 +6,7 @@ use Prim.Native.Nat.{ℕ, zero, suc, ◌+◌, ◌-◌, ◌≤◌, ◌<◌}
 use native.Mathlib.Nat.{le_of_suc-le-suc, not-suc-le-zero, add-zero, sub-zero, zero-sub, suc-sub-suc}
 use native.Mathlib.Numerals.{add-one}
 use native.Mathlib.Omega.{arith}
-use lib.ListN.{length, take, drop, get_or, set, replicate, length-append, length-drop, length-replicate, take-append-drop, drop_of_length-le, get_or-append, get_or-replicate}
+use lib.ListN.{length, take, drop, get_or, set, replicate, length-append, length-drop, length-replicate, take-append-drop, drop_of_length-le, get_or-append}
 use lib.Seq.{take_at, drop_at, take_all, length-take-le, get_or-append-add, get_or-take, get_or-drop, set_at}
 use borrow.Rule.Slice.PartMut.{put_mid}
 use Rattle.octets.specs.Octets.{Bytes, Block, table, padded}
@@ -111,20 +111,14 @@ drop_zeros zero n v = simp sub-zero
 drop_zeros (suc k) zero v = simp zero-sub
 drop_zeros (suc k) (suc n) v = drop_zeros k n v ∙ simp suc-sub-suc
 
-pub padded_is : (s : List ℕ) → length s < 16 → set (upto s (replicate 16 0) (length s)) (length s) 0x80 ≡ padded s
+pub padded_is : (s x : List ℕ) → x ≡ s → length s < 16 → set (x ++ drop (length s) (replicate 16 0)) (length s) 0x80 ≡ padded s
 unfolding padded
-padded_is s h =
+padded_is s x p h =
     let e : 16 - length s ≡ suc (15 - length s) = omega arith in
-    ap (λ (p : List ℕ). set (p ++ drop (length s) (replicate 16 0)) (length s) 128) (take_all (length s) s (omega arith))
-    ∙ ap (λ (p : List ℕ). set (s ++ p) (length s) 128) (drop_zeros (length s) 16 0 ∙ ap (λ (n : ℕ). replicate n 0) e)
+    ap (λ (y : List ℕ). set (y ++ drop (length s) (replicate 16 0)) (length s) 128) p
+    ∙ ap (λ (y : List ℕ). set (s ++ y) (length s) 128) (drop_zeros (length s) 16 0 ∙ ap (λ (n : ℕ). replicate n 0) e)
     ∙ set_at s 0 (replicate (15 - length s) 0) 128 (length s) refl
 
 pub padded-length : (s : List ℕ) → length s < 16 → length (padded s) ≡ 16
 unfolding padded
 padded-length s h = simp (length-append, length-replicate) (omega arith)
-
-pub zeros_length : (n : ℕ) → length (replicate {A = ℕ} n 0) ≡ n
-zeros_length n = length-replicate n 0
-
-pub zeros_at : (n i : ℕ) → i < n → ◌≡◌ {A = ℕ} 0 (get_or (replicate n 0) i 0)
-zeros_at n i h = sym (get_or-replicate n i 0 0 h)

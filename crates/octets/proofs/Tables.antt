@@ -14,6 +14,8 @@ use lib.Dec.{T, eqb, eqb→eq, ltb, ltb→lt, lit<}
 use lib.ListN.{length, get_or, set, length-set, get_or-eq_default}
 use lib.Seq.{ext_get_or, get_or-set_same, get_or-set_other}
 use borrow.Author.Count.{below_more}
+use denote.Param.Members.{Mut, Called}
+use Rattle.std.specs.Array.{IsFromFnResultFrom, IsFromFnResult}
 use Rattle.octets.specs.Octets.{Bytes, Block, pick, ◌⊕◌, table_from, table, each_byte}
 use Rattle.octets.proofs.Xor.{⊕-length, ⊕_at}
 
@@ -147,3 +149,23 @@ bounded f m n t x h = ltb→lt (f x) m (below (λ y. ltb (f y) m) n t x h)
 -- a list written out is the table of f, by one test over its places
 pub table_tested : (f : ℕ → ℕ) (n : ℕ) (l : List ℕ) → length l ≡ n → T (agree (λ k. get_or l k 0) f n) → l ≡ table f n
 table_tested f n l e t = is_table f n l e (agreed (λ k. get_or l k 0) f n t)
+
+-- ---- what `array::from_fn` makes, by a closure whose calls leave it as it was
+
+module _ {F : Type 0} (R : ℕ → ℕ → Type 0) (g : Mut F (ℕ × Unit {0}) ℕ) (s : F) (l : List ℕ)
+         (call : (i : ℕ) (t : F) (y : ℕ) → Called g s (i, tt) y t → R i y × (t ≡ s)) where
+  made_from : (i n : ℕ) (t : F) → t ≡ s → IsFromFnResultFrom g t l i n → (k : ℕ) → k < n → R (i + k) (get_or l (i + k) 0)
+  made_from i zero t e r k h = absurd (not-suc-le-zero h)
+  made_from i (suc n) t e r zero h =
+      rw add-zero (subst (R i) (sym (r.2.1 0)) (call i r.0 r.1 (subst (λ (u : F). Called g u (i, tt) r.1 r.0) e r.3)).0)
+  made_from i (suc n) t e r (suc k) h =
+      let next : i + 1 + k ≡ i + suc k = omega arith in
+      subst (λ (j : ℕ). R j (get_or l j 0)) next
+      (made_from (i + 1) n r.0 (call i r.0 r.1 (subst (λ (u : F). Called g u (i, tt) r.1 r.0) e r.3)).1 r.4 k (le_of_suc-le-suc h))
+
+  pub made_at : (n : ℕ) → IsFromFnResult g s l n → (k : ℕ) → k < n → R k (get_or l k 0)
+  made_at n r k h = subst (λ (j : ℕ). R j (get_or l j 0)) (zero-add k) (made_from 0 n s refl r.each k h)
+
+pub made_table : {F : Type 0} (f : ℕ → ℕ) (g : Mut F (ℕ × Unit {0}) ℕ) (s : F) (l : List ℕ)
+    → ((i : ℕ) (t : F) (y : ℕ) → Called g s (i, tt) y t → (y ≡ f i) × (t ≡ s)) → (n : ℕ) → IsFromFnResult g s l n → l ≡ table f n
+made_table f g s l call n r = is_table f n l r.long (made_at (λ i y. y ≡ f i) g s l call n r)

@@ -5,15 +5,15 @@
 ghost use Rattle.std.specs.Prelude.{◌≡◌, ◌++◌, ◌+◌, ◌≤◌, ◌<◌, length, take, drop, replicate};
 ghost use Rattle.octets.specs.Octets.{◌⊕◌, padded, same};
 
+use std::array;
+
 // The block that starts at a place of the slice.
 pub fn read_block(s: &[u8], at: usize) -> [u8; 16]
     requires { at + 16 ≤ length s.now }
     ensures { result ≡ take 16 (drop at s.now) }
 {
     let mut block = [0u8; 16];
-    for i in 0..16 {
-        block[i] = s[at + i];
-    }
+    block.copy_from_slice(&s[at..at + 16]);
     block
 }
 
@@ -22,19 +22,13 @@ pub fn write_block(s: &mut [u8], at: usize, block: [u8; 16])
     requires { at + 16 ≤ length s.old }
     ensures { s.new ≡ take at s.old ++ (block ++ drop (at + 16) s.old) }
 {
-    for i in 0..16 {
-        s[at + i] = block[i];
-    }
+    s[at..at + 16].copy_from_slice(&block);
 }
 
 pub fn xor_block(a: [u8; 16], b: [u8; 16]) -> [u8; 16]
     ensures { result ≡ a ⊕ b }
 {
-    let mut block = [0u8; 16];
-    for i in 0..16 {
-        block[i] = a[i] ^ b[i];
-    }
-    block
+    array::from_fn(|i| a[i] ^ b[i])
 }
 
 // A part no longer than a block, with the block's first bytes XORed in.
@@ -42,43 +36,35 @@ pub fn xor_into(part: &mut [u8], block: [u8; 16])
     requires { length part.old ≤ 16 }
     ensures { part.new ≡ part.old ⊕ block }
 {
-    for i in 0..part.len() {
-        part[i] = part[i] ^ block[i];
+    for (i, x) in part.iter_mut().enumerate() {
+        *x ^= block[i];
     }
 }
 
 // A partial block, 0x80, and zeros.
+#[tactic(auto, using(crate::proofs::Parts::padded_is))]
 pub fn pad(part: &[u8]) -> [u8; 16]
     requires { length part.now < 16 }
     ensures { result ≡ padded part.now }
 {
     let mut block = [0u8; 16];
-    for i in 0..part.len() {
-        block[i] = part[i];
-    }
+    block[..part.len()].copy_from_slice(part);
     block[part.len()] = 0x80;
     block
 }
 
 // Whether two blocks are the same. Every byte is compared, whatever the first ones show; nothing is claimed about time.
+#[tactic(auto, using(crate::proofs::Sameness::no_difference))]
 pub fn same_block(a: [u8; 16], b: [u8; 16]) -> bool
     ensures { result ≡ same a b }
 {
-    let mut difference = 0u8;
-    for i in 0..a.len() {
-        difference = difference | (a[i] ^ b[i]);
-    }
-    if difference != 0 {
-        return false;
-    }
-    true
+    let difference = xor_block(a, b).iter().fold(0, |seen, x| seen | x);
+    difference == 0
 }
 
 // Every byte zero.
 pub fn clear(s: &mut [u8])
     ensures { s.new ≡ replicate (length s.old) 0 }
 {
-    for i in 0..s.len() {
-        s[i] = 0;
-    }
+    s.fill(0);
 }

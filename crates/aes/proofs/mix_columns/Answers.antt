@@ -1,23 +1,16 @@
--- `aes::mix_columns` meets its contract: the loop fills the block by `mix_byte`; the turned blocks are the columns turned, by computation.
+-- `aes::mix_columns` meets its contract: what the closure gives at each place is the mixed byte; the turned blocks are the columns turned, by computation.
 -- Assumes nothing.
-use mathlib.Core.Path.{refl, ◌∙◌}
-use borrow.Author.Rules.{rules}
+use Rattle.std.proofs.Common.{rules, ◌∙◌, get_or, List, ℕ}
 use Rattle.octets.specs.Octets.{table}
-use Rattle.octets.proofs.Tables.{filled_none, filled_more, filled_all}
-use Rattle.aes.specs.Round.{mix_columns}
+use Rattle.octets.proofs.Tables.{made_table}
+use Rattle.aes.specs.Round.{mix_byte, mix_columns}
 use Rattle.aes.proofs.mix_columns.Goals as goal
-
-pub loop-i-init : goal.loop-i-init
-loop-i-init c = filled_none refl
-
-pub loop-i-preserved : goal.loop-i-preserved
-loop-i-preserved c = filled_more c.mix_byte.result c.loop-i.invariant (search rules) c.mix_byte.ensures
 
 pub returns : goal.returns
 unfolding mix_columns table
-returns c = filled_all c.loop-i.invariant (search rules)
-    ∙ rw (
-      c.turn_columns-fourth.ensures,
-      c.turn_columns-third.ensures,
-      c.turn_columns-second.ensures,
-    )
+returns c =
+    let at = λ (s : List ℕ) (i : ℕ). get_or s i 0 in
+    made_table
+    (λ i. mix_byte (at c.args.block i) (at c.turn_columns-second.result i) (at c.turn_columns-third.result i) (at c.turn_columns-fourth.result i))
+    _ _ _ (λ i t y k. search rules) 16 c.from_fn.ensures.items
+    ∙ rw (c.turn_columns-fourth.ensures, c.turn_columns-third.ensures, c.turn_columns-second.ensures)

@@ -1,20 +1,10 @@
--- `aes::substitute` meets its contract: the loop fills the block with the entries; an index is a byte, so below 256.
+-- `aes::substitute` meets its contract: what the closure gives at each place is the entry of the byte there.
 -- Assumes nothing.
-use mathlib.Core.Path.{refl}
-use borrow.Author.Rules.{rules}
-use Rattle.octets.proofs.Tables.{byte, filled_none, filled_more, filled_all}
+use Rattle.std.proofs.Common.{rules}
+use Rattle.octets.proofs.Tables.{made_table}
 use Rattle.octets.specs.Octets.{each_byte}
 use Rattle.aes.proofs.substitute.Goals as goal
 
-pub loop-i-init : goal.loop-i-init
-loop-i-init c = filled_none refl
-
-pub bounds-entries-block : goal.bounds-entries-block
-bounds-entries-block c = byte (search rules)
-
-pub loop-i-preserved : goal.loop-i-preserved
-loop-i-preserved c = filled_more _ c.loop-i.invariant (search rules) refl
-
 pub returns : goal.returns
 unfolding each_byte
-returns c = filled_all c.loop-i.invariant (search rules)
+returns c = made_table _ _ _ _ (λ i t y k. search rules) 16 c.from_fn.ensures.items

@@ -1,15 +1,8 @@
--- `aes::turn_columns` meets its contract: the loop fills the block.
+-- `aes::turn_columns` meets its contract: what the closure gives at each place is the byte that is turned there.
 -- Assumes nothing.
-use mathlib.Core.Path.{refl}
-use borrow.Author.Rules.{rules}
-use Rattle.octets.proofs.Tables.{filled_none, filled_more, filled_all}
+use Rattle.std.proofs.Common.{rules}
+use Rattle.octets.proofs.Tables.{made_table}
 use Rattle.aes.proofs.turn_columns.Goals as goal
 
-pub loop-i-init : goal.loop-i-init
-loop-i-init c = filled_none refl
-
-pub loop-i-preserved : goal.loop-i-preserved
-loop-i-preserved c = filled_more _ c.loop-i.invariant (search rules) refl
-
 pub returns : goal.returns
-returns c = filled_all c.loop-i.invariant (search rules)
+returns c = made_table _ _ _ _ (λ i t y k. search rules) 16 c.from_fn.ensures.items
