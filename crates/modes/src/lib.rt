@@ -34,15 +34,10 @@ fn absorb(k: Subkeys, tweak: [u8; 16], block: [u8; 16], tally: Tally) -> Tally
     requires { (k.rounds ≤ 16) × (tally.count.rows + 1 < 2 ^ 64) }
     ensures { result ≡ record { sum = tally.sum ⊕ encipher k tweak block; count = record { rows = tally.count.rows + 1 } } }
 {
-    let count = tally.count;
-    let called = deoxys_bc::encipher(k, tweak, block, count);
-    let sum = tally.sum;
-    let given = called.block;
-    let next = octets::xor_block(sum, given);
-    let raised = called.count;
+    let called = deoxys_bc::encipher(k, tweak, block, tally.count);
     Tally {
-        sum: next,
-        count: raised,
+        sum: octets::xor_block(tally.sum, called.block),
+        count: called.count,
     }
 }
 
