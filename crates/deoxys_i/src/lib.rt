@@ -21,7 +21,7 @@ const KIND_TAG: u8 = 1;
 
 const KIND_TAG_LAST: u8 = 5;
 
-// A call, deciphering where it is an opening.
+// A call, deciphering where it is an opening. A flag: there are two directions and two callers, and a closure or an enum only renames them.
 fn crypt_block(k: Subkeys, tweak: [u8; 16], block: [u8; 16], opening: bool, count: Count) -> Called
     requires { (k.rounds ≤ 16) × (count.rows + 1 < 2 ^ 64) }
     ensures { result ≡ record { block = (direction opening k tweak block).to; count = record { rows = count.rows + 1 } } }
@@ -35,14 +35,14 @@ fn crypt_block(k: Subkeys, tweak: [u8; 16], block: [u8; 16], opening: bool, coun
 // Full block i of the buffer, in place, under its number in the message.
 fn crypt_turn(
     k: Subkeys,
-    nonce: &[u8],
+    nonce: &[u8; 8],
     number: usize,
     buffer: &mut [u8],
     i: usize,
     opening: bool,
     count: Count,
 ) -> Count
-    requires { (k.rounds ≤ 16) × (length nonce.now ≡ 8) × (16 * i + 16 ≤ length buffer.old) × (count.rows + 1 < 2 ^ 64) }
+    requires { (k.rounds ≤ 16) × (16 * i + 16 ≤ length buffer.old) × (count.rows + 1 < 2 ^ 64) }
     ensures value { result ≡ record { rows = count.rows + 1 } }
     ensures buffer_after { buffer.new ≡ take (16 * i) buffer.old
         ++ ((direction opening k (nonce_tweak 0 nonce.now number) (take 16 (drop (16 * i) buffer.old))).to
@@ -52,8 +52,7 @@ fn crypt_turn(
     let block = octets::read_block(buffer, at);
     let tweak = tweaks::nonce_tweak(KIND_MESSAGE, nonce, number);
     let called = crypt_block(k, tweak, block, opening, count);
-    let given = called.block;
-    octets::write_block(buffer, at, given);
+    octets::write_block(buffer, at, called.block);
     called.count
 }
 
@@ -61,19 +60,20 @@ fn crypt_turn(
 // with an enciphered zero block.
 pub fn crypt_message(
     k: Subkeys,
-    nonce: &[u8],
+    nonce: &[u8; 8],
     first: usize,
     buffer: &mut [u8],
     opening: bool,
     count: Count,
 ) -> Count
-    requires { (k.rounds ≤ 16) × (length nonce.now ≡ 8) × (first + length buffer.old / 16 < 2 ^ 64)
+    requires { (k.rounds ≤ 16) × (first + length buffer.old / 16 < 2 ^ 64)
         × (count.rows + length buffer.old / 16 + 2 < 2 ^ 64) }
     ensures value { result ≡ record { rows = count.rows + length (rows_from first (direction opening k) k nonce.now buffer.old) } }
     ensures buffer_after { buffer.new ≡ text_from first (direction opening k) k nonce.now buffer.old }
 {
     let n = buffer.len() / 16;
     let mut running = count;
+    // An index: nothing is known of a buffer after its blocks were lent by `as_chunks_mut` or `chunks_exact_mut`.
     for i in 0..n {
         running = crypt_turn(k, nonce, first + i, buffer, i, opening, running);
     }
@@ -81,8 +81,7 @@ pub fn crypt_message(
     if at < buffer.len() {
         let tweak = tweaks::nonce_tweak(KIND_MESSAGE_LAST, nonce, first + n);
         let called = deoxys_bc::encipher(k, tweak, [0u8; 16], running);
-        let given = called.block;
-        octets::xor_into(&mut buffer[at..], given);
+        octets::xor_into(&mut buffer[at..], called.block);
         return called.count;
     }
     running
@@ -92,15 +91,15 @@ pub fn crypt_message(
 pub fn checksum(from: [u8; 16], message: &[u8]) -> [u8; 16]
     ensures { result ≡ summed from message.now }
 {
-    let n = message.len() / 16;
+    let (blocks, rest) = message.as_chunks::<16>();
     let mut sum = from;
-    for i in 0..n {
-        let next = octets::xor_block(sum, octets::read_block(message, 16 * i));
+    for block in blocks {
+        // A local of its own: the checker does not cover an array that a call lays into a variable of a loop.
+        let next = octets::xor_block(sum, *block);
         sum = next;
     }
-    let at = 16 * n;
-    if at < message.len() {
-        return octets::xor_block(sum, octets::pad(&message[at..]));
+    if !rest.is_empty() {
+        return octets::xor_block(sum, octets::pad(rest));
     }
     sum
 }
@@ -118,13 +117,13 @@ fn tag_kind(bytes: usize) -> u8
 // Auth XOR the enciphered checksum; the number counts the partial block.
 pub fn tag(
     k: Subkeys,
-    nonce: &[u8],
+    nonce: &[u8; 8],
     bytes: usize,
     sum: [u8; 16],
     auth: [u8; 16],
     count: Count,
 ) -> Tagged
-    requires { (k.rounds ≤ 16) × (length nonce.now ≡ 8) × (bytes + 15 < 2 ^ 64) × (count.rows + 1 < 2 ^ 64) }
+    requires { (k.rounds ≤ 16) × (bytes + 15 < 2 ^ 64) × (count.rows + 1 < 2 ^ 64) }
     ensures { result ≡ record {
       tag = auth ⊕ (sum_row k nonce.now bytes sum).to;
       count = record { rows = count.rows + 1 };
@@ -132,36 +131,32 @@ pub fn tag(
 {
     let tweak = tweaks::nonce_tweak(tag_kind(bytes), nonce, (bytes + 15) / 16);
     let called = deoxys_bc::encipher(k, tweak, sum, count);
-    let given = called.block;
-    let tag = octets::xor_block(auth, given);
-    let raised = called.count;
-    Tagged { tag, count: raised }
+    Tagged {
+        tag: octets::xor_block(auth, called.block),
+        count: called.count,
+    }
 }
 
 // The crate's `encrypt_inout` of Deoxys-I.
-pub fn seal(k: Subkeys, nonce: &[u8], ad: &[u8], buffer: &mut [u8]) -> Tagged
-    requires { (k.rounds ≤ 16) × (length nonce.now ≡ 8) × (length ad.now ≤ 1048576) × (length buffer.old ≤ 1048576) }
+pub fn seal(k: Subkeys, nonce: &[u8; 8], ad: &[u8], buffer: &mut [u8]) -> Tagged
+    requires { (k.rounds ≤ 16) × (length ad.now ≤ 1048576) × (length buffer.old ≤ 1048576) }
     ensures value { result ≡ answered (seal_i k nonce.now ad.now buffer.old) }
     ensures buffer_after { buffer.new ≡ (seal_i k nonce.now ad.now buffer.old).text }
 {
     let tally = modes::compute_ad_tag(k, ad);
     let sum = checksum([0u8; 16], buffer);
-    let authenticated = tally.count;
-    let count = crypt_message(k, nonce, 0, buffer, false, authenticated);
-    let auth = tally.sum;
-    tag(k, nonce, buffer.len(), sum, auth, count)
+    let count = crypt_message(k, nonce, 0, buffer, false, tally.count);
+    tag(k, nonce, buffer.len(), sum, tally.sum, count)
 }
 
 // The crate's `decrypt_inout` of Deoxys-I, up to the comparison: the tag is the one computed.
-pub fn open(k: Subkeys, nonce: &[u8], ad: &[u8], buffer: &mut [u8]) -> Tagged
-    requires { (k.rounds ≤ 16) × (length nonce.now ≡ 8) × (length ad.now ≤ 1048576) × (length buffer.old ≤ 1048576) }
+pub fn open(k: Subkeys, nonce: &[u8; 8], ad: &[u8], buffer: &mut [u8]) -> Tagged
+    requires { (k.rounds ≤ 16) × (length ad.now ≤ 1048576) × (length buffer.old ≤ 1048576) }
     ensures value { result ≡ answered (open_i k nonce.now ad.now buffer.old) }
     ensures buffer_after { buffer.new ≡ (open_i k nonce.now ad.now buffer.old).text }
 {
     let tally = modes::compute_ad_tag(k, ad);
-    let authenticated = tally.count;
-    let count = crypt_message(k, nonce, 0, buffer, true, authenticated);
+    let count = crypt_message(k, nonce, 0, buffer, true, tally.count);
     let recovered_sum = checksum([0u8; 16], buffer);
-    let auth = tally.sum;
-    tag(k, nonce, buffer.len(), recovered_sum, auth, count)
+    tag(k, nonce, buffer.len(), recovered_sum, tally.sum, count)
 }

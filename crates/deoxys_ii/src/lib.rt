@@ -30,20 +30,21 @@ fn authenticate_message(k: Subkeys, message: &[u8], tally: Tally) -> Tally
     modes::authenticate(k, TWEAK_M, TWEAK_M_LAST, message, tally)
 }
 
-// Auth enciphered.
-fn tag(k: Subkeys, nonce: &[u8], tally: Tally) -> Tagged
-    requires { (k.rounds ≤ 16) × (length nonce.now ≡ 15) × (tally.count.rows + 1 < 2 ^ 64) }
+// Auth enciphered. Here and below an array goes from one struct into another by a local of its own: the checker covers no other way.
+fn tag(k: Subkeys, nonce: &[u8; 15], tally: Tally) -> Tagged
+    requires { (k.rounds ≤ 16) × (tally.count.rows + 1 < 2 ^ 64) }
     ensures { result ≡ record {
       tag = encipher k (0x10 ∷ nonce.now) tally.sum;
       count = record { rows = tally.count.rows + 1 };
     } }
 {
-    let auth = tally.sum;
-    let count = tally.count;
-    let called = deoxys_bc::encipher(k, tweaks::prefixed(TWEAK_TAG, nonce), auth, count);
+    let tweak = tweaks::prefixed(TWEAK_TAG, nonce);
+    let called = deoxys_bc::encipher(k, tweak, tally.sum, tally.count);
     let tag = called.block;
-    let raised = called.count;
-    Tagged { tag, count: raised }
+    Tagged {
+        tag,
+        count: called.count,
+    }
 }
 
 // Keystream block j; the caller XORs it in.
@@ -64,62 +65,55 @@ fn encrypt_decrypt_block(
 fn encrypt_decrypt_message(
     k: Subkeys,
     tag: [u8; 16],
-    nonce: &[u8],
+    nonce: &[u8; 15],
     buffer: &mut [u8],
     count: Count,
 ) -> Count
-    requires { (k.rounds ≤ 16) × (length nonce.now ≡ 15) × (count.rows + length buffer.old / 16 + 2 < 2 ^ 64) }
+    requires { (k.rounds ≤ 16) × (count.rows + length buffer.old / 16 + 2 < 2 ^ 64) }
     ensures value { result ≡ record { rows = count.rows + length (keystream_rows k tag nonce.now buffer.old) } }
     ensures buffer_after { buffer.new ≡ crypted k tag nonce.now buffer.old }
 {
     let block = tweaks::prefixed(0x00, nonce);
     let n = buffer.len() / 16;
     let mut running = count;
+    // An index: nothing is known of a buffer after its blocks were lent by `as_chunks_mut` or `chunks_exact_mut`.
     for j in 0..n {
         let at = 16 * j;
-        let end = at + 16;
         let called = encrypt_decrypt_block(k, tag, block, j, running);
-        let given = called.block;
-        octets::xor_into(&mut buffer[at..end], given);
+        octets::xor_into(&mut buffer[at..at + 16], called.block);
         running = called.count;
     }
     let at = 16 * n;
     if at < buffer.len() {
         let called = encrypt_decrypt_block(k, tag, block, n, running);
-        let given = called.block;
-        octets::xor_into(&mut buffer[at..], given);
+        octets::xor_into(&mut buffer[at..], called.block);
         return called.count;
     }
     running
 }
 
 // The crate's `encrypt_inout` of Deoxys-II.
-pub fn seal(k: Subkeys, nonce: &[u8], ad: &[u8], buffer: &mut [u8]) -> Tagged
-    requires { (k.rounds ≤ 16) × (length nonce.now ≡ 15) × (length ad.now ≤ 1048576) × (length buffer.old ≤ 1048576) }
+pub fn seal(k: Subkeys, nonce: &[u8; 15], ad: &[u8], buffer: &mut [u8]) -> Tagged
+    requires { (k.rounds ≤ 16) × (length ad.now ≤ 1048576) × (length buffer.old ≤ 1048576) }
     ensures value { result ≡ answered (seal_ii k nonce.now ad.now buffer.old) }
     ensures buffer_after { buffer.new ≡ (seal_ii k nonce.now ad.now buffer.old).text }
 {
     let tally = authenticate_message(k, buffer, modes::compute_ad_tag(k, ad));
     let tagged = tag(k, nonce, tally);
     let tag = tagged.tag;
-    let authenticated = tagged.count;
-    let count = encrypt_decrypt_message(k, tag, nonce, buffer, authenticated);
+    let count = encrypt_decrypt_message(k, tag, nonce, buffer, tagged.count);
     Tagged { tag, count }
 }
 
 // The crate's `decrypt_inout` of Deoxys-II, up to the comparison: the keystream is the given tag's, the tag the one computed.
-pub fn open(k: Subkeys, nonce: &[u8], ad: &[u8], buffer: &mut [u8], given: [u8; 16]) -> Tagged
-    requires { (k.rounds ≤ 16) × (length nonce.now ≡ 15) × (length ad.now ≤ 1048576) × (length buffer.old ≤ 1048576) }
+pub fn open(k: Subkeys, nonce: &[u8; 15], ad: &[u8], buffer: &mut [u8], given: [u8; 16]) -> Tagged
+    requires { (k.rounds ≤ 16) × (length ad.now ≤ 1048576) × (length buffer.old ≤ 1048576) }
     ensures value { result ≡ answered (open_ii k nonce.now ad.now buffer.old given) }
     ensures buffer_after { buffer.new ≡ (open_ii k nonce.now ad.now buffer.old given).text }
 {
     let tally = modes::compute_ad_tag(k, ad);
     let sum = tally.sum;
-    let authenticated = tally.count;
-    let count = encrypt_decrypt_message(k, given, nonce, buffer, authenticated);
-    tag(
-        k,
-        nonce,
-        authenticate_message(k, buffer, Tally { sum, count }),
-    )
+    let count = encrypt_decrypt_message(k, given, nonce, buffer, tally.count);
+    let recovered = authenticate_message(k, buffer, Tally { sum, count });
+    tag(k, nonce, recovered)
 }

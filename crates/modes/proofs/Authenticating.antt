@@ -2,10 +2,11 @@
 -- Assumes nothing.
 use mathlib.Core.Path.{◌≡◌, refl, sym, ◌∙◌}
 use mathlib.Core.List.{List, [], ◌∷◌}
-use Prim.Native.Nat.{ℕ, suc, ◌+◌, ◌-◌, ◌*◌, ◌≤◌, ◌<◌}
+use Prim.Native.Nat.{ℕ, suc, ◌+◌, ◌-◌, ◌*◌, ◌<◌}
 use native.Mathlib.Nat.{add-zero, not-suc-le-zero}
 use native.Mathlib.Omega.{arith}
-use lib.ListN.{length, drop, length-drop, drop_of_length-le}
+use lib.ListN.{length, drop}
+use Rattle.std.proofs.lemmas.List.{nil_from_length}
 use Rattle.octets.specs.Octets.{◌⊕◌, block_at, padded}
 use Rattle.deoxys_bc.specs.Cipher.{encipher}
 use Rattle.tweakey.specs.declared.Subkeys.{Subkeys}
@@ -34,21 +35,23 @@ partial_some call [] h = absurd (not-suc-le-zero h)
 partial_some call (x ∷ s) h = refl
 
 module _ (k : Subkeys) (full part : ℕ) (s : List ℕ) (n i : ℕ) (t w : Tally) (g : done t (text_rows k full part s (n - i) i) ≡ w) where
-  pub auth_turn : i < n → done (stepped t (encipher k (numbered full i) (block_at s i))) (text_rows k full part s (n - (i + 1)) (i + 1)) ≡ w
+  pub auth_turn : (block : List ℕ) → block ≡ block_at s i → i < n
+      → done (stepped t (encipher k (numbered full i) block)) (text_rows k full part s (n - (i + 1)) (i + 1)) ≡ w
   unfolding text_rows
-  auth_turn h =
+  auth_turn block b h =
       let e : n - i ≡ suc (n - (i + 1)) = omega arith in
-      sym (done_one t _ _) ∙ (rw e at g)
+      rw b (sym (done_one t _ _) ∙ (rw e at g))
 
-  pub auth_none : i ≡ n → length s ≤ 16 * n → t ≡ w
-  unfolding text_rows
-  auth_none e h =
-      let z : n - n ≡ 0 = omega arith in
-      sym (done_none t) ∙ (rw (e, z, drop_of_length-le s h) at g)
+  module _ (rest : List ℕ) (r : rest ≡ drop (16 * n) s) (e : i ≡ n) where
+    z : n - n ≡ 0
+    z = omega arith
 
-  pub auth_part : i ≡ n → 16 * n < length s → stepped t (encipher k (numbered part n) (padded (drop (16 * n) s))) ≡ w
-  unfolding text_rows
-  auth_part e h =
-      let z : n - n ≡ 0 = omega arith in
-      let some = partial_some (λ p. enciphered k (numbered part n) (padded p)) (drop (16 * n) s) (simp length-drop (omega arith)) in
-      sym (done_one t _ [] ∙ done_none _) ∙ (rw (e, z, some) at g)
+    pub auth_none : length rest ≡ 0 → t ≡ w
+    unfolding text_rows
+    auth_none h = sym (done_none t) ∙ (rw (e, z, ← r, nil_from_length rest h) at g)
+
+    pub auth_part : 0 < length rest → stepped t (encipher k (numbered part n) (padded rest)) ≡ w
+    unfolding text_rows
+    auth_part h =
+        let some = partial_some (λ p. enciphered k (numbered part n) (padded p)) rest h in
+        sym (done_one t _ [] ∙ done_none _) ∙ (rw (e, z, ← r, some) at g)

@@ -1,3 +1,4 @@
 pub mod Authenticating
+pub mod Chunks
 pub mod Counts
 pub mod Values

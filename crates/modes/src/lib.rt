@@ -15,7 +15,7 @@ const TWEAK_AD: u8 = 0x20;
 
 const TWEAK_AD_LAST: u8 = 0x60;
 
-// A sum of blocks, and the calls made so far.
+// A sum of blocks, and the calls made so far. `Tagged` and `deoxys_bc::Called` are a block and a count too: each field's name says which block.
 #[derive(Clone, Copy)]
 pub struct Tally {
     pub sum: [u8; 16],
@@ -34,49 +34,34 @@ fn absorb(k: Subkeys, tweak: [u8; 16], block: [u8; 16], tally: Tally) -> Tally
     requires { (k.rounds ≤ 16) × (tally.count.rows + 1 < 2 ^ 64) }
     ensures { result ≡ record { sum = tally.sum ⊕ encipher k tweak block; count = record { rows = tally.count.rows + 1 } } }
 {
-    let count = tally.count;
-    let called = deoxys_bc::encipher(k, tweak, block, count);
-    let sum = tally.sum;
-    let given = called.block;
-    let next = octets::xor_block(sum, given);
-    let raised = called.count;
+    let called = deoxys_bc::encipher(k, tweak, block, tally.count);
     Tally {
-        sum: next,
-        count: raised,
+        sum: octets::xor_block(tally.sum, called.block),
+        count: called.count,
     }
 }
 
 // Auth over a text, full blocks with one tweak byte 0 and a partial one with another.
-pub fn authenticate(k: Subkeys, full: u8, partial: u8, text: &[u8], tally: Tally) -> Tally
+pub fn authenticate(k: Subkeys, full: u8, partial: u8, text: &[u8], mut tally: Tally) -> Tally
     requires { (k.rounds ≤ 16) × (tally.count.rows + length text.now / 16 + 2 < 2 ^ 64) }
     ensures { result ≡ record {
       sum = absorbed tally.sum (auth_rows k full partial text.now);
       count = record { rows = tally.count.rows + length (auth_rows k full partial text.now) };
     } }
 {
-    let n = text.len() / 16;
-    let mut running = tally;
-    for i in 0..n {
-        running = absorb(
-            k,
-            tweaks::numbered(full, i),
-            octets::read_block(text, 16 * i),
-            running,
-        );
+    let (blocks, rest) = text.as_chunks::<16>();
+    for (i, block) in blocks.iter().enumerate() {
+        tally = absorb(k, tweaks::numbered(full, i), *block, tally);
     }
-    let at = 16 * n;
-    if at < text.len() {
-        return absorb(
-            k,
-            tweaks::numbered(partial, n),
-            octets::pad(&text[at..]),
-            running,
-        );
+    if !rest.is_empty() {
+        let tweak = tweaks::numbered(partial, blocks.len());
+        return absorb(k, tweak, octets::pad(rest), tally);
     }
-    running
+    tally
 }
 
 // The crate's `compute_ad_tag`: Auth over the associated data, and the first calls that are counted.
+#[tactic(auto, unfolding(octets::specs::Octets::zero_block))]
 pub fn compute_ad_tag(k: Subkeys, ad: &[u8]) -> Tally
     requires { (k.rounds ≤ 16) × (length ad.now / 16 + 2 < 2 ^ 64) }
     ensures { result ≡ record {

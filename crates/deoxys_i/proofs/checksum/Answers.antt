@@ -1,27 +1,26 @@
--- `deoxys_i::checksum` meets its contract: what is left to add from where the loop stands gives what there was at first.
+-- `deoxys_i::checksum` meets its contract: after some blocks the sum is the fold over them.
 -- Assumes nothing.
-use mathlib.Core.Path.{refl}
-use native.Mathlib.Nat.{sub-zero}
-use native.Mathlib.Omega.{arith}
-use borrow.Author.Rules.{rules}
-use Rattle.octets.proofs.Parts.{rest_is}
-use Rattle.deoxys_i.proofs.Checksums.{sum_turn, sum_part, sum_none}
+use Rattle.std.proofs.Common.{arith, ◌≡◌, ◌<◌, length}
+use Rattle.std.proofs.lemmas.Grind.{common_steps}
+use Rattle.std.proofs.lemmas.List.Sums.{fold_more}
+use Rattle.deoxys_i.proofs.Checksums.{blocks_summed, sum_part, sum_none}
 use Rattle.deoxys_i.proofs.checksum.Goals as goal
 
-pub loop-i-init : goal.loop-i-init
-loop-i-init c = simp sub-zero (refl, search rules)
+pub loop-block-preserved : goal.loop-block-preserved
+loop-block-preserved c = grind (arith, common_steps, fold_more)
 
-pub loop-i-preserved : goal.loop-i-preserved
-loop-i-preserved c =
-    let l = c.loop-i in
-    rw (c.xor_block-next.ensures, c.read_block.ensures) (sum_turn _ _ _ l.sum _ l.invariant.0 (search rules), omega arith)
-
-pub returns-then-at-message : goal.returns-then-at-message
-returns-then-at-message c =
-    let l = c.loop-i in
-    rw (c.xor_block.ensures, c.pad.ensures, rest_is) (sum_part _ _ _ l.sum _ l.invariant.0 (omega arith) (omega arith))
+pub returns-then-not-is_empty : goal.returns-then-not-is_empty
+returns-then-not-is_empty c =
+    let a = c.args in
+    let cut = c.as_chunks.ensures in
+    let sum : c.loop-block.sum ≡ blocks_summed a.from a.message.now = rw (← cut.front) (grind (arith, common_steps)) in
+    let some : 0 < length c.as_chunks.result.1.now = grind (arith, common_steps) in
+    rw (c.xor_block.ensures, c.pad.ensures, sum) (sum_part a.from a.message.now _ cut.back some)
 
 pub returns : goal.returns
 returns c =
-    let l = c.loop-i in
-    sum_none _ _ _ l.sum _ l.invariant.0 (omega arith) (omega arith)
+    let a = c.args in
+    let cut = c.as_chunks.ensures in
+    let sum : c.loop-block.sum ≡ blocks_summed a.from a.message.now = rw (← cut.front) (grind (arith, common_steps)) in
+    let none : length c.as_chunks.result.1.now ≡ 0 = grind (arith, common_steps) in
+    rw sum (sum_none a.from a.message.now _ cut.back none)

@@ -1,9 +1,7 @@
 -- `deoxys_i::crypt_message` meets its contract: what is still to do of the buffer, from where the loop stands, gives
 -- what there was to do at first.
 -- Assumes nothing.
-use mathlib.Core.Path.{refl, ◌∙◌}
-use native.Mathlib.Omega.{arith}
-use borrow.Author.Rules.{rules}
+use Rattle.std.proofs.Common.{rules, arith, ◌∙◌, refl}
 use Rattle.octets.specs.Octets.{zero_block}
 use Rattle.octets.proofs.Parts.{rest_is, rest_put}
 use Rattle.modes.proofs.Counts.{counted}
@@ -11,23 +9,23 @@ use Rattle.deoxys_i.proofs.Message.{crypt_start, crypt_turn, crypt_part, crypt_n
 use Rattle.deoxys_i.proofs.crypt_message.Goals as goal
 
 pub loop-i-init : goal.loop-i-init
-loop-i-init c = (crypt_start _ _ _ _ _ _ _, search rules, refl, omega arith)
+loop-i-init c = record { left = crypt_start _ _ _ _ _ _ _; size = refl; counted = omega arith }
 
 pub loop-i-preserved : goal.loop-i-preserved
 loop-i-preserved c =
     let l = c.loop-i in
-    let t = crypt_turn _ _ _ _ _ _ _ _ _ _ l.invariant.0
-    c.crypt_turn-running.new.buffer
+    let turn = c.crypt_turn-running in
+    let t = crypt_turn _ _ _ _ _ _ _ _ _ _ l.invariant.left turn.new.buffer
     (search rules) (search rules)
-    c.crypt_turn-running.auto.buffer
-    c.crypt_turn-running.ensures.buffer_after in
-    rw c.crypt_turn-running.ensures.value (t, search rules, c.crypt_turn-running.auto.buffer ∙ l.invariant.2, omega arith)
+    turn.auto.buffer
+    turn.ensures.buffer_after in
+    rw turn.ensures.value (record { left = t; size = turn.auto.buffer ∙ l.invariant.size; counted = omega arith })
 
 pub returns-then-at-buffer : goal.returns-then-at-buffer
 unfolding zero_block
 returns-then-at-buffer c =
     let l = c.loop-i in
-    let t = crypt_part _ _ _ _ _ _ _ _ _ _ l.invariant.0 (omega arith) (omega arith) in
+    let t = crypt_part _ _ _ _ _ _ _ _ _ _ l.invariant.left (omega arith) (omega arith) in
     rw (
       rest_put,
       c.xor_into.ensures,
@@ -40,5 +38,5 @@ returns-then-at-buffer c =
 pub returns : goal.returns
 returns c =
     let l = c.loop-i in
-    let t = crypt_none _ _ _ _ _ _ _ _ _ _ l.invariant.0 (omega arith) (omega arith) in
+    let t = crypt_none _ _ _ _ _ _ _ _ _ _ l.invariant.left (omega arith) (omega arith) in
     record { value = counted t.0; buffer_after = t.1 }

@@ -15,7 +15,7 @@ pub crypt_message-count-requires : goal.crypt_message-count-requires
 crypt_message-count-requires c =
     let a = c.args in
     let ad = auth_count a.k 32 96 a.ad.now in
-    rw c.compute_ad_tag-tally.ensures (search rules, search rules, search rules, omega arith)
+    rw c.compute_ad_tag-tally.ensures (search rules, search rules, omega arith)
 
 pub tag-requires : goal.tag-requires
 tag-requires c =
@@ -23,7 +23,7 @@ tag-requires c =
     let ad = auth_count a.k 32 96 a.ad.now in
     let message = crypt_count (direction false a.k) a.k a.nonce.now a.buffer.now in
     rw (c.crypt_message-count.ensures.value, c.compute_ad_tag-tally.ensures)
-    (search rules, search rules, search rules, omega arith)
+    (search rules, search rules, omega arith)
 
 pub returns : goal.returns
 unfolding seal_i zero_block

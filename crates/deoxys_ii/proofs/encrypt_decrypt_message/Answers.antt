@@ -18,7 +18,7 @@ xored : (s : List ℕ) {part b b' : List ℕ} → part ≡ s ⊕ b → b ≡ b' 
 xored s p e = p ∙ ap (λ (x : List ℕ). s ⊕ x) e
 
 pub loop-j-init : goal.loop-j-init
-loop-j-init c = (stream_start _ _ _ _ _ _, search rules, refl, omega arith)
+loop-j-init c = record { left = stream_start _ _ _ _ _ _; size = refl; counted = omega arith }
 
 pub loop-j-preserved : goal.loop-j-preserved
 loop-j-preserved c =
@@ -27,14 +27,14 @@ loop-j-preserved c =
     let block = ap (λ (r : Called). r.block) made in
     let size : length c.encrypt_decrypt_block-called.result.block ≡ 16 = search rules in
     let written = xored _ c.xor_into.ensures block in
-    let t = stream_turn _ _ _ _ _ _ _ _ _ l.invariant.0 _ (omega arith) (omega arith) (rw block at size) written in
-    rw made (t, search rules, omega arith, omega arith)
+    let t = stream_turn _ _ _ _ _ _ _ _ _ l.invariant.left _ (omega arith) (omega arith) (rw block at size) written in
+    rw made (record { left = t; size = omega arith; counted = omega arith })
 
 pub returns-then-at-buffer : goal.returns-then-at-buffer
 returns-then-at-buffer c =
     let l = c.loop-j in
     let e : l.j ≡ length c.args.buffer.now / 16 = omega arith in
-    let t = stream_part _ _ _ _ _ _ _ _ _ l.invariant.0 (omega arith) in
+    let t = stream_part _ _ _ _ _ _ _ _ _ l.invariant.left (omega arith) in
     rw (
       rest_put,
       c.xor_into-then-at-buffer.ensures,
@@ -48,5 +48,5 @@ returns-then-at-buffer c =
 pub returns : goal.returns
 returns c =
     let l = c.loop-j in
-    let t = stream_none _ _ _ _ _ _ _ _ _ l.invariant.0 (omega arith) (omega arith) in
+    let t = stream_none _ _ _ _ _ _ _ _ _ l.invariant.left (omega arith) (omega arith) in
     record { value = counted t.0; buffer_after = t.1 }

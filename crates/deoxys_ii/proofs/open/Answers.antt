@@ -13,10 +13,10 @@ pub encrypt_decrypt_message-count-requires : goal.encrypt_decrypt_message-count-
 encrypt_decrypt_message-count-requires c =
     let a = c.args in
     let ad = auth_count a.k 32 96 a.ad.now in
-    rw c.compute_ad_tag-tally.ensures (search rules, search rules, omega arith)
+    rw c.compute_ad_tag-tally.ensures (search rules, omega arith)
 
-pub authenticate_message-requires : goal.authenticate_message-requires
-authenticate_message-requires c =
+pub authenticate_message-recovered-requires : goal.authenticate_message-recovered-requires
+authenticate_message-recovered-requires c =
     let a = c.args in
     let ad = auth_count a.k 32 96 a.ad.now in
     let stream = keystream_count a.k a.given a.nonce.now a.buffer.now in
@@ -34,11 +34,11 @@ tag-requires c =
     let message = auth_count a.k 0 64 c.encrypt_decrypt_message-count.new.buffer in
     let kept = c.encrypt_decrypt_message-count.auto.buffer in
     rw (
-      c.authenticate_message.ensures,
+      c.authenticate_message-recovered.ensures,
       c.encrypt_decrypt_message-count.ensures.value,
       c.compute_ad_tag-tally.ensures,
     )
-    (search rules, search rules, omega arith)
+    (search rules, omega arith)
 
 pub returns : goal.returns
 unfolding open_ii
@@ -46,7 +46,7 @@ returns c =
     let a = c.args in
     rw (
       c.tag.ensures,
-      c.authenticate_message.ensures,
+      c.authenticate_message-recovered.ensures,
       c.encrypt_decrypt_message-count.ensures.buffer_after,
       c.encrypt_decrypt_message-count.ensures.value,
       c.compute_ad_tag-tally.ensures,

@@ -19,7 +19,7 @@ tag-tagged-requires c =
     let a = c.args in
     let ad = auth_count a.k 32 96 a.ad.now in
     let message = auth_count a.k 0 64 a.buffer.now in
-    rw (c.authenticate_message-tally.ensures, c.compute_ad_tag.ensures) (search rules, search rules, omega arith)
+    rw (c.authenticate_message-tally.ensures, c.compute_ad_tag.ensures) (search rules, omega arith)
 
 pub encrypt_decrypt_message-count-requires : goal.encrypt_decrypt_message-count-requires
 encrypt_decrypt_message-count-requires c =
@@ -31,7 +31,7 @@ encrypt_decrypt_message-count-requires c =
       c.authenticate_message-tally.ensures,
       c.compute_ad_tag.ensures,
     )
-    (search rules, search rules, omega arith)
+    (search rules, omega arith)
 
 pub returns : goal.returns
 unfolding seal_ii
