@@ -40,7 +40,10 @@ pub fn refusal(suite: u8, ad: usize, message: usize) -> u8
 {
     let key = suites::key_length(suite);
     let nonce = suites::nonce_length(suite);
-    suites::refusal(suite, key, nonce, ad, message)
+    match suites::refusal(suite, key, nonce, ad, message) {
+        Ok(()) => 0,
+        Err(refused) => refused.number(),
+    }
 }
 
 // A partial block is counted.
