@@ -2,10 +2,11 @@
 ghost use Rattle.std.specs.Prelude.{◌≤◌, length};
 
 use crate::script::Script;
-use crate::steps::{Run, Wanted};
+use crate::steps::{Call, Run, Wanted};
 use crate::{numbers, steps};
 use differences::tally::Tally;
 use lists::text;
+use lists::text::Spelled;
 
 const BYTES: usize = 256;
 
@@ -23,23 +24,21 @@ struct Fields {
     one: usize,
     two: usize,
     three: usize,
-    good: bool,
 }
 
-fn three(line: &[u8], first: usize) -> Fields
+fn three(line: &[u8], first: usize) -> Option<Fields>
     requires { first ≤ 5 }
 {
-    let a = text::with_field(text::nothing(), text::field(line, first));
-    let b = text::with_field(a, text::field(line, first + 1));
-    let c = text::with_field(b, text::field(line, first + 2));
+    let a = Spelled::nothing().with_field(text::field(line, first))?;
+    let b = a.with_field(text::field(line, first + 1))?;
+    let c = b.with_field(text::field(line, first + 2))?;
     let bytes = c.bytes;
-    Fields {
+    Some(Fields {
         bytes,
         one: a.length,
         two: b.length,
         three: c.length,
-        good: c.good,
-    }
+    })
 }
 
 // The bytes between two places, none where these are too many or not there.
@@ -79,7 +78,7 @@ fn same_bytes(a: [u8; BYTES], b: [u8; BYTES]) -> bool {
 }
 
 // Key, nonce and data are the fields.
-fn begun(suite: u8, inputs: Fields, line: usize, tally: Tally) -> Run {
+fn begun(suite: u8, inputs: Fields, line: usize, tally: Tally<Call>) -> Run {
     let bytes = inputs.bytes;
     let kept = inputs.bytes;
     let key = part(&bytes, 0, inputs.one);
@@ -95,7 +94,7 @@ fn wanted(texts: Fields, rows: usize, line: usize) -> Wanted {
     Wanted { line, tag, rows }
 }
 
-fn scripted(script: Script, run: Run, wanted: Wanted, texts: Fields) -> Tally {
+fn scripted(script: Script, run: Run, wanted: Wanted, texts: Fields) -> Tally<Call> {
     let bytes = texts.bytes;
     let plain = laid_out(bytes, 0, texts.one);
     let sealed = laid_out(bytes, texts.one, texts.two);
@@ -106,40 +105,27 @@ fn scripted(script: Script, run: Run, wanted: Wanted, texts: Fields) -> Tally {
 // Whether the script takes the whole message, and the ciphertext is as long.
 fn fits(texts: Fields, taken: usize) -> bool {
     if taken <= LONGEST {
-        return texts.good
-            && texts.one == taken
-            && texts.two == 2 * taken
-            && texts.three == 2 * taken + 16;
+        return texts.one == taken && texts.two == 2 * taken && texts.three == 2 * taken + 16;
     }
     false
 }
 
-fn spelled(fields: Fields) -> bool {
-    fields.good
+// The three inputs, and the three texts that the script takes and leaves.
+fn fields_of(text: &[u8], taken: usize) -> Option<(Fields, Fields)> {
+    let inputs = three(text, 2)?;
+    let texts = three(text, 5)?;
+    fits(texts, taken).then_some((inputs, texts))
 }
 
-fn good(text: &[u8], taken: usize) -> bool {
-    numbers::at(text, 1) < 256
-        && numbers::at(text, 8) < numbers::NONE
-        && spelled(three(text, 2))
-        && fits(three(text, 5), taken)
-}
-
-pub fn replayed(text: &[u8], script: Script, line: usize, tally: Tally) -> Tally {
-    if !good(text, script.taken) {
+pub fn replayed(text: &[u8], script: Script, line: usize, tally: Tally<Call>) -> Tally<Call> {
+    let suite = numbers::at(text, 1);
+    let rows = numbers::at(text, 8);
+    let Some((inputs, texts)) = fields_of(text, script.taken) else {
+        return tally.with_bad_line(line);
+    };
+    if suite >= 256 || rows == numbers::NONE {
         return tally.with_bad_line(line);
     }
-    let run = begun(
-        numbers::byte(numbers::at(text, 1)),
-        three(text, 2),
-        line,
-        tally,
-    );
-    let texts = three(text, 5);
-    scripted(
-        script,
-        run,
-        wanted(texts, numbers::at(text, 8), line),
-        texts,
-    )
+    let run = begun(numbers::byte(suite), inputs, line, tally);
+    scripted(script, run, wanted(texts, rows, line), texts)
 }

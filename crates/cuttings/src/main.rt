@@ -10,15 +10,9 @@ mod steps;
 
 use differences::tally::Tally;
 use lists::text;
-use replay::{files, report};
+use replay::{cases, report};
 use std::io;
-use std::rt::Files;
-
-// No list is as long.
-const ROOM: usize = 65536;
-
-// The calls in the order of their numbers.
-const CALLS: &[u8] = b"beginning\ntaking a piece\nfinishing";
+use steps::Call;
 
 // The field with a line's first script, by the line's first word; no line reaches so far where the word is neither.
 fn first_script(text: &[u8]) -> usize {
@@ -33,7 +27,7 @@ fn first_script(text: &[u8]) -> usize {
 }
 
 // The script in field `k` of a line.
-fn replayed(text: &[u8], k: usize, line: usize, tally: Tally) -> Tally {
+fn replayed(text: &[u8], k: usize, line: usize, tally: Tally<Call>) -> Tally<Call> {
     let s = script::read(text::field(text, k));
     if !s.good {
         return tally.with_bad_line(line);
@@ -45,7 +39,7 @@ fn replayed(text: &[u8], k: usize, line: usize, tally: Tally) -> Tally {
 }
 
 // The scripts of a line, each a case.
-fn scripts(text: &[u8], line: usize, tally: Tally) -> Tally {
+fn scripts(text: &[u8], line: usize, tally: Tally<Call>) -> Tally<Call> {
     let mut t = tally;
     let mut k = first_script(text);
     while k < text.len() {
@@ -59,38 +53,19 @@ fn scripts(text: &[u8], line: usize, tally: Tally) -> Tally {
 }
 
 // One line more. Whatever is no comment has a script.
-fn line(text: &[u8], number: usize, tally: Tally) -> Tally {
-    if !text::is_case(text) {
-        return tally;
-    }
+fn line(text: &[u8], number: usize, tally: Tally<Call>) -> Tally<Call> {
     if text::ends(text, first_script(text)) {
         return tally.with_bad_line(number).with_case();
     }
     scripts(text, number, tally)
 }
 
-// The lines of a list, counted from one.
-fn lines(text: &[u8]) -> Tally {
-    let mut tally = Tally::new();
-    for i in 0..text::line_count(text) {
-        tally = line(text::line(text, i), i + 1, tally);
-    }
-    tally.with_a_case()
-}
-
-// Replays the list in a file and writes a line on it.
-fn list(rt: &(impl Files + Print + Eprint), name: &[u8]) -> io::Result<Tally> {
-    let mut text = [0u8; ROOM];
-    let n = files::read(rt, name, &mut text)?;
-    report::list(rt, name, CALLS, lines(&text[..n]))
-}
-
 // The spoilt list shows that a difference is told; it is no part of the total.
 fn main(rt: HostRuntime) -> io::Result<()> {
-    list(&rt, b"spoilt.txt")?;
-    let mut total = list(&rt, b"cuttings.txt")?;
-    total = total.and(list(&rt, b"stages.txt")?);
-    total = total.and(list(&rt, b"limits.txt")?);
+    cases::list(&rt, b"spoilt.txt", line)?;
+    let mut total = cases::list(&rt, b"cuttings.txt", line)?;
+    total = total.and(cases::list(&rt, b"stages.txt", line)?);
+    total = total.and(cases::list(&rt, b"limits.txt", line)?);
     report::total(&rt, total)?;
     Ok(())
 }

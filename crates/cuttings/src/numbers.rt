@@ -5,11 +5,7 @@ use lists::text;
 pub const NONE: usize = 0xffffffff;
 
 pub fn at(line: &[u8], k: usize) -> usize {
-    let n = text::decimal(text::field(line, k));
-    if n.good {
-        return n.value;
-    }
-    NONE
+    text::decimal(text::field(line, k)).unwrap_or(NONE)
 }
 
 pub fn byte(n: usize) -> u8 {

@@ -1,7 +1,6 @@
 // Scripts: what is done after begin. Steps stand a comma apart. A step is the bytes of a piece, or `f` for the finish, and then, after a colon,
 // the number that it is answered with, where that is not 0.
 use lists::text;
-use lists::text::Number;
 
 pub const STEPS: usize = 16;
 
@@ -17,7 +16,6 @@ const MOST: usize = 2097152;
 struct Step {
     size: usize,
     number: u8,
-    good: bool,
 }
 
 // The steps' sizes and numbers, how many steps there are, and the bytes of the pieces that are to be taken.
@@ -30,36 +28,26 @@ pub struct Script {
     pub good: bool,
 }
 
-fn size_of(word: &[u8]) -> Number {
+fn size_of(word: &[u8]) -> Option<usize> {
     if check::same(word, b"f") {
-        return Number {
-            value: FINISH,
-            good: true,
-        };
+        return Some(FINISH);
     }
     text::decimal(word)
 }
 
 // The number after the colon, or 0 where there is none.
-fn number_of(word: &[u8], colon: usize) -> Number {
+fn number_of(word: &[u8], colon: usize) -> Option<usize> {
     if colon < word.len() {
         return text::decimal(&word[colon + 1..]);
     }
-    Number {
-        value: 0,
-        good: true,
-    }
+    Some(0)
 }
 
-fn step_of(word: &[u8]) -> Step {
+fn step_of(word: &[u8]) -> Option<Step> {
     let colon = text::find(word, b':', 0);
-    let size = size_of(&word[0..colon]);
-    let number = number_of(word, colon);
-    Step {
-        size: size.value,
-        number: (number.value % 256) as u8,
-        good: size.good && number.good && number.value < 256,
-    }
+    let size = size_of(&word[0..colon])?;
+    let number = u8::try_from(number_of(word, colon)?).ok()?;
+    Some(Step { size, number })
 }
 
 fn none() -> Script {
@@ -106,10 +94,9 @@ fn with_step(mut s: Script, size: usize, number: u8) -> Script {
 }
 
 fn with_word(s: Script, word: &[u8]) -> Script {
-    let step = step_of(word);
-    if !step.good {
+    let Some(step) = step_of(word) else {
         return bad(s);
-    }
+    };
     with_step(s, step.size, step.number)
 }
 

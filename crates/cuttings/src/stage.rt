@@ -3,7 +3,7 @@
 ghost use Rattle.std.specs.Prelude.{◌≤◌, ◌+◌, length};
 
 use crate::script::Script;
-use crate::steps::{Run, Wanted};
+use crate::steps::{Call, Run, Wanted};
 use crate::{numbers, steps};
 use differences::pattern;
 use differences::tally::Tally;
@@ -54,7 +54,7 @@ fn part(s: &[u8], from: usize, n: usize) -> &[u8] {
     &s[..0]
 }
 
-fn begun(a: Attempt, line: usize, tally: Tally, source: &[u8; ROOM]) -> Run {
+fn begun(a: Attempt, line: usize, tally: Tally<Call>, source: &[u8; ROOM]) -> Run {
     let key = part(source, KEY, a.key);
     let nonce = part(source, NONCE, a.nonce);
     let state = pieces::begin(numbers::byte(a.suite), key, nonce, part(source, 0, a.data));
@@ -96,7 +96,7 @@ fn scripted(
     plain: &[u8; ROOM],
     sealed: &mut [u8; ROOM],
     room: &mut [u8; ROOM],
-) -> Tally
+) -> Tally<Call>
     requires { script.taken ≤ 1049584 }
 {
     let wanted = single(a, script.taken, line, plain, sealed);
@@ -107,7 +107,7 @@ fn fill(room: &mut [u8; ROOM]) {
     pattern::fill(room, pattern::BUFFER);
 }
 
-fn in_rooms(a: Attempt, script: Script, line: usize, tally: Tally) -> Tally
+fn in_rooms(a: Attempt, script: Script, line: usize, tally: Tally<Call>) -> Tally<Call>
     requires { script.taken ≤ 1049584 }
 {
     let mut plain = [0u8; ROOM];
@@ -118,7 +118,7 @@ fn in_rooms(a: Attempt, script: Script, line: usize, tally: Tally) -> Tally
     scripted(a, script, run, line, &plain, &mut sealed, &mut room)
 }
 
-pub fn replayed(text: &[u8], script: Script, line: usize, tally: Tally) -> Tally {
+pub fn replayed(text: &[u8], script: Script, line: usize, tally: Tally<Call>) -> Tally<Call> {
     let a = read(text);
     if good(a) {
         if script.taken <= ROOM - steps::BEFORE {

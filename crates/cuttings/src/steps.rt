@@ -3,14 +3,25 @@ use crate::script;
 use crate::script::Script;
 use differences::tally::{Seen, Tally, What};
 use pieces::Pieces;
+use std::fmt;
 use tweakey::Subkeys;
 
-// The calls by their numbers.
-const BEGINNING: usize = 0;
+#[derive(Clone, Copy)]
+pub enum Call {
+    Beginning,
+    Taking,
+    Finishing,
+}
 
-const TAKING: usize = 1;
-
-const FINISHING: usize = 2;
+impl fmt::Display for Call {
+    fn fmt<W: fmt::Write>(&self, f: &mut fmt::Formatter<W>) -> fmt::Result {
+        f.write_str(match self {
+            Call::Beginning => "beginning",
+            Call::Taking => "taking a piece",
+            Call::Finishing => "finishing",
+        })
+    }
+}
 
 // Where the message starts in a room.
 pub const BEFORE: usize = 16;
@@ -28,7 +39,7 @@ pub struct Wanted {
 pub struct Run {
     pub state: Pieces,
     pub at: usize,
-    pub tally: Tally,
+    pub tally: Tally<Call>,
 }
 
 // Arrays by value: a lent field makes the check of whoever lends it longer.
@@ -109,7 +120,7 @@ fn holds(room: &[u8], plain: &[u8], sealed: &[u8], end: usize) -> bool {
 }
 
 // What differs after a begin, and after a piece.
-fn differs(given: u8, number: u8, buffer: bool, inputs: bool) -> What {
+fn differs(given: u8, number: u8, buffer: bool, inputs: bool) -> Option<What> {
     let seen = Seen {
         number: given,
         rows: 0,
@@ -121,7 +132,7 @@ fn differs(given: u8, number: u8, buffer: bool, inputs: bool) -> What {
 }
 
 // The run after a call.
-fn after(tally: Tally, line: usize, call: usize, what: What, state: Pieces, at: usize) -> Run {
+fn after(tally: Tally<Call>, line: usize, call: Call, what: Option<What>, state: Pieces, at: usize) -> Run {
     Run {
         state,
         at,
@@ -130,9 +141,9 @@ fn after(tally: Tally, line: usize, call: usize, what: What, state: Pieces, at: 
 }
 
 // The run after begin, which is answered by the number that the state has.
-pub fn begun(state: Pieces, number: u8, inputs: bool, line: usize, tally: Tally) -> Run {
+pub fn begun(state: Pieces, number: u8, inputs: bool, line: usize, tally: Tally<Call>) -> Run {
     let what = differs(state.number, number, true, inputs);
-    after(tally, line, BEGINNING, what, state, BEFORE)
+    after(tally, line, Call::Beginning, what, state, BEFORE)
 }
 
 // A line whose piece goes past the room is no case.
@@ -172,7 +183,7 @@ fn take(
                 holds(room, plain, sealed, to),
                 inputs,
             );
-            return after(run.tally, line, TAKING, what, answer.pieces, to);
+            return after(run.tally, line, Call::Taking, what, answer.pieces, to);
         }
     }
     past(run, line)
@@ -200,7 +211,7 @@ fn finish_differs(
     wanted: Wanted,
     buffer: bool,
     inputs: bool,
-) -> What {
+) -> Option<What> {
     let tag = answer.tag;
     let seen = Seen {
         number: answer.number,
@@ -219,7 +230,7 @@ fn finish(run: Run, number: u8, wanted: Wanted, buffer: bool) -> Run {
     after(
         run.tally,
         wanted.line,
-        FINISHING,
+        Call::Finishing,
         what,
         answer.pieces,
         run.at,
@@ -252,7 +263,7 @@ pub fn replayed(
     plain: &[u8],
     sealed: &[u8],
     room: &mut [u8],
-) -> Tally {
+) -> Tally<Call> {
     let mut r = run;
     for i in 0..script::STEPS {
         r = step(

@@ -20,20 +20,20 @@ fn what(wanted: usize, i: usize) -> What {
 }
 
 // The first answer that differs from those in field `first` and after it, and last the buffer.
-pub fn differ(line: &[u8], first: usize, given: [usize; ANSWERS], buffer: bool) -> What
+pub fn differ(line: &[u8], first: usize, given: [usize; ANSWERS], buffer: bool) -> Option<What>
     requires { first ≤ 9 }
 {
     if text::ends(line, first) || !text::ends(line, first + ANSWERS) {
-        return What::Form;
+        return Some(What::Form);
     }
     for i in 0..ANSWERS {
         let wanted = spelling::number_at(line, first + i);
         if wanted != given[i] {
-            return what(wanted, i);
+            return Some(what(wanted, i));
         }
     }
     if buffer {
-        return What::Nothing;
+        return None;
     }
-    What::Buffer
+    Some(What::Buffer)
 }

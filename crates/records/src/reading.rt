@@ -1,22 +1,17 @@
 // Lines `read BYTES FROM TO PLACE ANSWERS..` and `bundle BYTES FROM TO 0 ANSWERS..`: the first FROM bytes are read, and one more each time
 // up to TO, with the same answers.
 use crate::answers::ANSWERS;
-use crate::{answers, spelling};
+use crate::{Call, answers, spelling};
 use differences::tally::Tally;
 use lists::text;
-
-// The calls by their numbers.
-pub const RECORD: usize = 2;
-
-pub const BUNDLE: usize = 3;
 
 // More than 65 of the longest records.
 const ROOM: usize = 340000;
 
 const FIRST: usize = 5;
 
-fn answered(call: usize, bytes: &[u8], at: usize) -> [usize; ANSWERS] {
-    if call == BUNDLE {
+fn answered(call: Call, bytes: &[u8], at: usize) -> [usize; ANSWERS] {
+    if call == Call::ReadingABundle {
         let b = record::reader::read_bundle(bytes);
         return [b.number as usize, b.records, 0, 0, 0, 0, 0, 0, 0, 0, 0];
     }
@@ -39,12 +34,12 @@ fn answered(call: usize, bytes: &[u8], at: usize) -> [usize; ANSWERS] {
 // Every length from the first to that of all bytes.
 fn lengths(
     text: &[u8],
-    call: usize,
+    call: Call,
     bytes: &[u8],
     from: usize,
     line: usize,
-    tally: Tally,
-) -> Tally {
+    tally: Tally<Call>,
+) -> Tally<Call> {
     let mut t = tally;
     let mut n = from;
     while n <= bytes.len() {
@@ -55,7 +50,7 @@ fn lengths(
     t
 }
 
-pub fn replayed(text: &[u8], call: usize, line: usize, tally: Tally) -> Tally {
+pub fn replayed(text: &[u8], call: Call, line: usize, tally: Tally<Call>) -> Tally<Call> {
     let mut room = [0u8; ROOM];
     let length = spelling::laid(text::field(text, 1), &mut room, 0);
     let from = spelling::number_at(text, 2);

@@ -11,11 +11,7 @@ fn number(field: &[u8]) -> usize {
     if check::same(field, b"max") {
         return usize::MAX;
     }
-    let n = text::decimal(field);
-    if n.good {
-        return n.value;
-    }
-    NONE
+    text::decimal(field).unwrap_or(NONE)
 }
 
 // The number in field `k`, or 0 where the line has no such field.
@@ -61,15 +57,16 @@ pub fn between(s: &[u8], from: usize, to: usize) -> &[u8] {
 }
 
 // The bytes that a part spells in hexadecimal.
-fn put(s: Spelled, room: &mut [u8], at: usize) -> usize {
+fn put(spelled: Option<Spelled>, room: &mut [u8], at: usize) -> usize {
+    let Some(s) = spelled else {
+        return NONE;
+    };
     let bytes = s.bytes;
     let part = between(&bytes, 0, s.length);
-    if s.good {
-        if at <= room.len() {
-            if part.len() <= room.len() - at {
-                room[at..at + part.len()].copy_from_slice(part);
-                return at + part.len();
-            }
+    if at <= room.len() {
+        if part.len() <= room.len() - at {
+            room[at..at + part.len()].copy_from_slice(part);
+            return at + part.len();
         }
     }
     NONE
@@ -84,7 +81,7 @@ fn part(word: &[u8], room: &mut [u8], at: usize) -> usize {
             return repeated(number(&word[1..]), room, at);
         }
     }
-    put(text::with_field(text::nothing(), word), room, at)
+    put(Spelled::nothing().with_field(word), room, at)
 }
 
 // Lays the text that a field spells into the room from a place on; where it ends.

@@ -3,16 +3,11 @@
 ghost use Rattle.std.specs.Prelude.{◌≤◌, ◌+◌, length};
 
 use crate::spelling::between;
-use crate::{answers, spelling};
+use crate::{Call, answers, spelling};
 use differences::pattern;
 use differences::tally::{Tally, What};
 use lists::text;
 use record::writer::Written;
-
-// The calls by their numbers.
-pub const RECORD: usize = 0;
-
-pub const DATA: usize = 1;
 
 // Where the destination starts. There are bytes after the greatest, too.
 const BEFORE: usize = 16;
@@ -46,7 +41,7 @@ fn texts_of(line: &[u8]) -> Texts {
     }
 }
 
-fn written(line: &[u8], call: usize, t: Texts, n: usize, room: &mut [u8]) -> Written
+fn written(line: &[u8], call: Call, t: Texts, n: usize, room: &mut [u8]) -> Written
     requires { 16 + n ≤ length room.old }
 {
     let bytes = t.bytes;
@@ -57,7 +52,7 @@ fn written(line: &[u8], call: usize, t: Texts, n: usize, room: &mut [u8]) -> Wri
     let cipher = between(&bytes, t.note, t.cipher);
     let tag = between(&bytes, t.cipher, t.tag);
     let destination = &mut room[BEFORE..BEFORE + n];
-    if call == DATA {
+    if call == Call::WritingRowData {
         return record::writer::write_row_data(row, note, destination);
     }
     record::writer::write(suite, row, nonce, note, cipher, tag, destination)
@@ -65,12 +60,12 @@ fn written(line: &[u8], call: usize, t: Texts, n: usize, room: &mut [u8]) -> Wri
 
 fn compared(
     text: &[u8],
-    call: usize,
+    call: Call,
     t: Texts,
     n: usize,
     room: &mut [u8; ROOM],
     wanted: &[u8; ROOM],
-) -> What
+) -> Option<What>
     requires { n ≤ 5284 }
 {
     let w = written(text, call, t, n, room);
@@ -84,7 +79,7 @@ fn lay(field: &[u8], room: &mut [u8; ROOM]) -> usize {
     spelling::laid(field, room, BEFORE)
 }
 
-pub fn replayed(text: &[u8], call: usize, line: usize, tally: Tally) -> Tally {
+pub fn replayed(text: &[u8], call: Call, line: usize, tally: Tally<Call>) -> Tally<Call> {
     let t = texts_of(text);
     let suite = spelling::number_at(text, 1);
     let row = spelling::number_at(text, 2);
