@@ -10,65 +10,52 @@ mod writing;
 
 use differences::tally::Tally;
 use lists::text;
-use replay::{files, report};
-use std::io;
-use std::rt::Files;
+use replay::{cases, report};
+use std::{fmt, io};
 
-// No list is as long.
-const ROOM: usize = 65536;
-
-// The calls in the order of their numbers.
-const CALLS: &[u8] = b"writing\nwriting row data\nreading\nreading a bundle";
-
-// The case on a line: its first word says what is called.
-fn replayed(text: &[u8], line: usize, tally: Tally) -> Tally {
-    let word = text::field(text, 0);
-    if check::same(word, b"write") {
-        return writing::replayed(text, writing::RECORD, line, tally);
-    }
-    if check::same(word, b"data") {
-        return writing::replayed(text, writing::DATA, line, tally);
-    }
-    if check::same(word, b"read") {
-        return reading::replayed(text, reading::RECORD, line, tally);
-    }
-    if check::same(word, b"bundle") {
-        return reading::replayed(text, reading::BUNDLE, line, tally);
-    }
-    tally.with_bad_line(line)
+#[derive(Clone, Copy)]
+pub enum Call {
+    Writing,
+    WritingRowData,
+    Reading,
+    ReadingABundle,
 }
 
-// One line more, if it is a case.
-fn line(text: &[u8], number: usize, tally: Tally) -> Tally {
-    if text::is_case(text) {
-        return replayed(text, number, tally).with_case();
+impl fmt::Display for Call {
+    fn fmt<W: fmt::Write>(&self, f: &mut fmt::Formatter<W>) -> fmt::Result {
+        f.write_str(match self {
+            Call::Writing => "writing",
+            Call::WritingRowData => "writing row data",
+            Call::Reading => "reading",
+            Call::ReadingABundle => "reading a bundle",
+        })
     }
-    tally
 }
 
-// The lines of a list, counted from one.
-fn lines(text: &[u8]) -> Tally {
-    let mut tally = Tally::new();
-    for i in 0..text::line_count(text) {
-        tally = line(text::line(text, i), i + 1, tally);
+// The first word says what is called; none where the line is no case.
+fn replayed(text: &[u8], line: usize, tally: Tally<Call>) -> Option<Tally<Call>> {
+    match text::field(text, 0) {
+        b"write" => writing::replayed(text, line, tally, Call::Writing, writing::record),
+        b"data" => writing::replayed(text, line, tally, Call::WritingRowData, writing::row_data),
+        b"read" => reading::replayed(text, line, tally, Call::Reading, reading::record),
+        b"bundle" => reading::replayed(text, line, tally, Call::ReadingABundle, reading::bundle),
+        _ => None,
     }
-    tally.with_a_case()
 }
 
-// Replays the list in a file and writes a line on it.
-fn list(rt: &(impl Files + Print + Eprint), name: &[u8]) -> io::Result<Tally> {
-    let mut text = [0u8; ROOM];
-    let n = files::read(rt, name, &mut text)?;
-    report::list(rt, name, CALLS, lines(&text[..n]))
+fn case(text: &[u8], line: usize, tally: Tally<Call>) -> Tally<Call> {
+    replayed(text, line, tally)
+        .unwrap_or(tally.with_bad_line(line))
+        .with_case()
 }
 
 // The spoilt list shows that a difference is told; it is no part of the total.
 fn main(rt: HostRuntime) -> io::Result<()> {
-    list(&rt, b"spoilt.txt")?;
-    let mut total = list(&rt, b"written.txt")?;
-    total = total.and(list(&rt, b"read.txt")?);
-    total = total.and(list(&rt, b"damaged.txt")?);
-    total = total.and(list(&rt, b"bundles.txt")?);
+    cases::list(&rt, b"spoilt.txt", case)?;
+    let mut total = cases::list(&rt, b"written.txt", case)?;
+    total = total.and(cases::list(&rt, b"read.txt", case)?);
+    total = total.and(cases::list(&rt, b"damaged.txt", case)?);
+    total = total.and(cases::list(&rt, b"bundles.txt", case)?);
     report::total(&rt, total)?;
     Ok(())
 }
