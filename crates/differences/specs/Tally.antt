@@ -1,62 +1,54 @@
 -- What differs in a call, and the count of cases, calls and differences. Assumes nothing.
-use Rattle.std.specs.Prelude.{Bool, true, false, ℕ, ◌+◌, ◌-◌, ◌^◌, min, eqb, ltb}
+use Rattle.std.specs.Prelude.{ℕ, ◌+◌, ◌-◌, ◌^◌, min, eqb, ltb, Option, Some, None}
 use Rattle.octets.specs.Octets.{pick}
+use Rattle.differences.specs.declared.tally.Difference.{Difference}
 use Rattle.differences.specs.declared.tally.Seen.{Seen}
 use Rattle.differences.specs.declared.tally.Tally.{Tally}
 use Rattle.differences.specs.declared.tally.What.{What}
-use Rattle.differences.specs.declared.tally.What.TheVariants.{Nothing, Number, Tag, Rows, Buffer, Inputs, Form}
+use Rattle.differences.specs.declared.tally.What.TheVariants.{Number, Tag, Rows, Buffer, Inputs, Form}
 
 -- the first thing that is not as wanted: number, tag, rows, buffer, inputs
-unfoldable pub first_difference : Seen → ℕ → ℕ → What
+unfoldable pub first_difference : Seen → ℕ → ℕ → Option What
 first_difference s number rows =
     pick (eqb s.number number)
-    (pick s.tag (pick (eqb s.rows rows) (pick s.buffer (pick s.inputs Nothing Inputs) Buffer) Rows) Tag)
-    Number
-
-abbrev pub is_nothing : What → Bool
-is_nothing Nothing = true
-is_nothing Number = false
-is_nothing Tag = false
-is_nothing Rows = false
-is_nothing Buffer = false
-is_nothing Inputs = false
-is_nothing Form = false
+    (pick s.tag (pick (eqb s.rows rows) (pick s.buffer (pick s.inputs None (Some Inputs)) (Some Buffer)) (Some Rows)) (Some Tag))
+    (Some Number)
 
 -- a count stops at the greatest number
 abbrev pub plus : ℕ → ℕ → ℕ
 plus a b = min (a + b) (2 ^ 64 - 1)
 
-abbrev pub none : Tally
-none = record { cases = 0; calls = 0; differ = 0; line = 0; call = 0; what = Nothing }
+module _ {C : Type 0} where
+  abbrev pub none : Tally C
+  none = record { cases = 0; calls = 0; differ = 0; first = None }
 
--- other counts, and the same first difference
-abbrev pub counted : Tally → ℕ → ℕ → ℕ → Tally
-counted t cases calls differ =
-    record { cases = cases; calls = calls; differ = differ; line = t.line; call = t.call; what = t.what }
+  -- other counts, and the same first difference
+  abbrev pub counted : Tally C → ℕ → ℕ → ℕ → Tally C
+  counted t cases calls differ = record { cases = cases; calls = calls; differ = differ; first = t.first }
 
-abbrev pub with_case : Tally → Tally
-with_case t = counted t (plus t.cases 1) t.calls t.differ
+  abbrev pub with_case : Tally C → Tally C
+  with_case t = counted t (plus t.cases 1) t.calls t.differ
 
--- one difference more, kept if it is the first
-unfoldable pub with_difference : Tally → ℕ → ℕ → What → Tally
-with_difference t line call what =
-    pick (ltb 0 t.differ)
-    (counted t t.cases t.calls (plus t.differ 1))
-    (record { cases = t.cases; calls = t.calls; differ = 1; line = line; call = call; what = what })
+  -- one difference more, kept if it is the first
+  unfoldable pub with_difference : Tally C → Difference C → Tally C
+  with_difference t difference =
+      pick (ltb 0 t.differ)
+      (counted t t.cases t.calls (plus t.differ 1))
+      (record { cases = t.cases; calls = t.calls; differ = 1; first = Some difference })
 
--- one call more, and a difference more unless nothing differed
-unfoldable pub with_call : Tally → ℕ → ℕ → What → Tally
-with_call t line call what =
-    let more = counted t t.cases (plus t.calls 1) t.differ in
-    pick (is_nothing what) more (with_difference more line call what)
+  -- one call more, and a difference more unless nothing differed
+  unfoldable pub with_call : Tally C → ℕ → C → Option What → Tally C
+  with_call t line call None = counted t t.cases (plus t.calls 1) t.differ
+  with_call t line call (Some what) =
+      with_difference (counted t t.cases (plus t.calls 1) t.differ) (record { line = line; call = Some call; what = what })
 
--- a line that is no case is a difference, with no call
-abbrev pub with_bad_line : Tally → ℕ → Tally
-with_bad_line t line = with_difference t line 0 Form
+  -- a line that is no case is a difference, with no call
+  abbrev pub with_bad_line : Tally C → ℕ → Tally C
+  with_bad_line t line = with_difference t (record { line = line; call = None; what = Form })
 
--- no case at all is a difference too
-unfoldable pub with_a_case : Tally → Tally
-with_a_case t = pick (eqb t.cases 0) (with_bad_line t 0) t
+  -- no case at all is a difference too
+  unfoldable pub with_a_case : Tally C → Tally C
+  with_a_case t = pick (eqb t.cases 0) (with_bad_line t 0) t
 
-abbrev pub together : Tally → Tally → Tally
-together t other = counted t (plus t.cases other.cases) (plus t.calls other.calls) (plus t.differ other.differ)
+  abbrev pub together : Tally C → Tally C → Tally C
+  together t other = counted t (plus t.cases other.cases) (plus t.calls other.calls) (plus t.differ other.differ)

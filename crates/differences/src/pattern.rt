@@ -7,6 +7,7 @@ pub const DATA: u8 = 34;
 pub const BUFFER: u8 = 51;
 
 // Byte `i` of the pattern with this salt.
+#[tactic(auto, unfolding(crate::specs::Pattern::pattern_at))]
 fn at(i: usize, salt: u8) -> u8
     ensures { result ≡ pattern_at salt i }
 {
@@ -16,8 +17,8 @@ fn at(i: usize, salt: u8) -> u8
 pub fn fill(s: &mut [u8], salt: u8)
     ensures { Follows salt 0 s.new }
 {
-    for i in 0..s.len() {
-        s[i] = at(i, salt);
+    for (i, byte) in s.iter_mut().enumerate() {
+        *byte = at(i, salt);
     }
 }
 
@@ -25,25 +26,16 @@ pub fn fill(s: &mut [u8], salt: u8)
 pub fn stayed(s: &[u8], from: usize, salt: u8) -> bool
     ensures { (result ≡ true → Follows salt from s.now) × (Follows salt from s.now → result ≡ true) }
 {
-    let mut i = from;
-    while i < s.len() {
-        if s[i] != at(i, salt) {
-            return false;
-        }
-        i += 1;
-    }
-    true
+    s.iter()
+        .enumerate()
+        .skip(from)
+        .all(|(i, byte)| *byte == at(i, salt))
 }
 
 pub fn zeros(s: &[u8]) -> bool
     ensures { (result ≡ true → Zeros s.now) × (Zeros s.now → result ≡ true) }
 {
-    for i in 0..s.len() {
-        if s[i] != 0 {
-            return false;
-        }
-    }
-    true
+    s.iter().all(|byte| *byte == 0)
 }
 
 // A number that depends on each byte and its place.
@@ -51,8 +43,8 @@ pub fn checksum(s: &[u8]) -> usize
     ensures { result ≡ checksum_from 0 s.now }
 {
     let mut sum = 0;
-    for i in 0..s.len() {
-        sum = (sum * 31 + s[i] as usize) % 65521;
+    for byte in s {
+        sum = (sum * 31 + usize::from(*byte)) % 65521;
     }
     sum
 }

@@ -1,6 +1,8 @@
 // What a call gave, what of it differs from what was wanted, and the count of it all.
 ghost use Rattle.std.specs.Prelude.{◌≡◌};
-ghost use Rattle.differences.specs.Tally.{plus, is_nothing, first_difference, none, with_case, with_difference, with_call, with_bad_line, with_a_case, together};
+ghost use Rattle.differences.specs.Tally.{first_difference, none, with_case, with_difference, with_call, with_bad_line, with_a_case, together};
+
+use std::fmt;
 
 // What a call answered, and whether its tag (an opening gives none), its buffer, with the bytes around it, and its inputs are then as they
 // should be.
@@ -14,9 +16,8 @@ pub struct Seen {
 }
 
 // What differs.
-#[derive(Clone, Copy)]
+#[derive(Clone, Copy, PartialEq, Eq)]
 pub enum What {
-    Nothing,
     Number,
     Tag,
     Rows,
@@ -25,128 +26,138 @@ pub enum What {
     Form,
 }
 
+impl fmt::Display for What {
+    fn fmt<W: fmt::Write>(&self, f: &mut fmt::Formatter<W>) -> fmt::Result {
+        f.write_str(match self {
+            What::Number => "number",
+            What::Tag => "tag",
+            What::Rows => "rows",
+            What::Buffer => "buffer",
+            What::Inputs => "inputs",
+            What::Form => "form",
+        })
+    }
+}
+
 impl Seen {
     // The first thing that differs.
-    pub fn differs(self, number: u8, rows: usize) -> What
+    #[tactic(auto, unfolding(crate::specs::Tally::first_difference))]
+    pub fn differs(self, number: u8, rows: usize) -> Option<What>
         ensures { result ≡ first_difference self number rows }
     {
         if self.number != number {
-            return What::Number;
+            return Some(What::Number);
         }
         if !self.tag {
-            return What::Tag;
+            return Some(What::Tag);
         }
         if self.rows != rows {
-            return What::Rows;
+            return Some(What::Rows);
         }
         if !self.buffer {
-            return What::Buffer;
+            return Some(What::Buffer);
         }
         if !self.inputs {
-            return What::Inputs;
+            return Some(What::Inputs);
         }
-        What::Nothing
+        None
     }
 }
 
-// Cases and calls so far, how many differ, and of the first that does the line, the call and what differed. A call is a number, counted
-// from zero, in the program's own list of its calls.
+// Where something differed, and what. A line that is no case has no call.
 #[derive(Clone, Copy)]
-pub struct Tally {
-    pub cases: usize,
-    pub calls: usize,
-    pub differ: usize,
+pub struct Difference<C> {
     pub line: usize,
-    pub call: usize,
+    pub call: Option<C>,
     pub what: What,
 }
 
+impl<C: fmt::Display> fmt::Display for Difference<C> {
+    fn fmt<W: fmt::Write>(&self, f: &mut fmt::Formatter<W>) -> fmt::Result {
+        write!(f, "line {}: {}", self.line, self.what)?;
+        match &self.call {
+            Some(call) if self.what != What::Form => write!(f, " in {call}"),
+            _ => Ok(()),
+        }
+    }
+}
+
+// Cases and calls so far, how many differ, and the first that does. `C` is what the program calls.
+#[derive(Clone, Copy)]
+pub struct Tally<C> {
+    pub cases: usize,
+    pub calls: usize,
+    pub differ: usize,
+    pub first: Option<Difference<C>>,
+}
+
 // A count stops at the greatest number and never wraps.
-fn sum(a: usize, b: usize) -> usize
-    ensures { result ≡ plus a b }
-{
-    if a <= usize::MAX - b {
-        a + b
-    } else {
-        usize::MAX
-    }
-}
-
-fn is_nothing(what: What) -> bool
-    ensures { result ≡ is_nothing what }
-{
-    match what {
-        What::Nothing => true,
-        What::Number => false,
-        What::Tag => false,
-        What::Rows => false,
-        What::Buffer => false,
-        What::Inputs => false,
-        What::Form => false,
-    }
-}
-
-impl Tally {
-    pub fn new() -> Tally
+impl<C: Copy> Tally<C> {
+    pub fn new() -> Tally<C>
         ensures { result ≡ none }
     {
         Tally {
             cases: 0,
             calls: 0,
             differ: 0,
-            line: 0,
-            call: 0,
-            what: What::Nothing,
+            first: None,
         }
     }
 
     // One case more.
-    pub fn with_case(mut self) -> Tally
+    pub fn with_case(mut self) -> Tally<C>
         ensures { result ≡ with_case self }
     {
-        self.cases = sum(self.cases, 1);
+        self.cases = self.cases.saturating_add(1);
         self
     }
 
     // One difference more, kept if it is the first.
-    fn with_difference(mut self, line: usize, call: usize, what: What) -> Tally
-        ensures { result ≡ with_difference self line call what }
+    #[tactic(auto, unfolding(crate::specs::Tally::with_difference))]
+    fn with_difference(mut self, difference: Difference<C>) -> Tally<C>
+        ensures { result ≡ with_difference self difference }
     {
         if self.differ > 0 {
-            self.differ = sum(self.differ, 1);
+            self.differ = self.differ.saturating_add(1);
             return self;
         }
         Tally {
-            cases: self.cases,
-            calls: self.calls,
             differ: 1,
-            line,
-            call,
-            what,
+            first: Some(difference),
+            ..self
         }
     }
 
     // One call more, and what differed in it.
-    pub fn with_call(mut self, line: usize, call: usize, what: What) -> Tally
+    #[tactic(auto, unfolding(crate::specs::Tally::with_call))]
+    pub fn with_call(mut self, line: usize, call: C, what: Option<What>) -> Tally<C>
         ensures { result ≡ with_call self line call what }
     {
-        self.calls = sum(self.calls, 1);
-        if is_nothing(what) {
+        self.calls = self.calls.saturating_add(1);
+        let Some(what) = what else {
             return self;
-        }
-        self.with_difference(line, call, what)
+        };
+        self.with_difference(Difference {
+            line,
+            call: Some(call),
+            what,
+        })
     }
 
     // A line that is no case.
-    pub fn with_bad_line(self, line: usize) -> Tally
+    pub fn with_bad_line(self, line: usize) -> Tally<C>
         ensures { result ≡ with_bad_line self line }
     {
-        self.with_difference(line, 0, What::Form)
+        self.with_difference(Difference {
+            line,
+            call: None,
+            what: What::Form,
+        })
     }
 
     // A list that has no case, or that could not be read, compares nothing.
     #[tactic(auto, unfolding(crate::specs::Tally::with_a_case))]
-    pub fn with_a_case(self) -> Tally
+    pub fn with_a_case(self) -> Tally<C>
         ensures { result ≡ with_a_case self }
     {
         if self.cases == 0 {
@@ -156,12 +167,12 @@ impl Tally {
     }
 
     // The counts of two lists. The first difference is a list's own, and the other's is left out.
-    pub fn and(mut self, other: Tally) -> Tally
+    pub fn and(mut self, other: Tally<C>) -> Tally<C>
         ensures { result ≡ together self other }
     {
-        self.cases = sum(self.cases, other.cases);
-        self.calls = sum(self.calls, other.calls);
-        self.differ = sum(self.differ, other.differ);
+        self.cases = self.cases.saturating_add(other.cases);
+        self.calls = self.calls.saturating_add(other.calls);
+        self.differ = self.differ.saturating_add(other.differ);
         self
     }
 }

@@ -1,13 +1,7 @@
--- `differences::pattern::fill` meets its contract: after i stores the first i bytes are the pattern's.
--- Assumes nothing.
-use Prim.Native.Nat.{◌-◌}
-use lib.ListN.{length}
-use Rattle.octets.proofs.Tables.{Filled}
+-- `differences::pattern::fill`: after i stores the first i bytes are the pattern's.
+use Rattle.std.proofs.Common.{◌≡◌, ℕ, ◌<◌, get_or, length}
 use Rattle.differences.specs.Pattern.{pattern_at}
 use Rattle.differences.proofs.pattern.fill.Given as goal
 
 abbrev pub invariant-loop-i : goal.invariant-loop-i
-invariant-loop-i l = Filled (pattern_at l.salt) (length l.initial.s) l.s l.i
-
-abbrev pub decreases-loop-i : goal.decreases-loop-i
-decreases-loop-i l = length l.initial.s - l.i
+invariant-loop-i l = (k : ℕ) → k < l.i → get_or l.s k 0 ≡ pattern_at l.salt k

@@ -1,19 +1,24 @@
--- `lists::text::decimal` meets its contract: each turn takes a digit off what is left.
--- Assumes nothing.
-use mathlib.Core.Path.{refl, sym, ◌∙◌}
-use borrow.Author.Rules.{rules}
-use Rattle.lists.proofs.Spelling.{number_next, number_end}
+-- `lists::text::decimal`: a byte that is no digit, a digit, and the end.
+use Rattle.std.proofs.Common.{◌≡◌, ◌<◌, ◌≤◌, sym, ◌∙◌, length, arith, rules}
+use Rattle.lists.proofs.Spelling.{number_stops, number_goes_on, number_ends, some_digits}
 use Rattle.lists.proofs.text.decimal.Goals as goal
 
-pub loop-i-init : goal.loop-i-init
-loop-i-init c = (search rules, refl)
-
-pub loop-i-preserved : goal.loop-i-preserved
-loop-i-preserved c =
-    let l = c.loop-i in
+pub returns-in_err-n : goal.returns-in_err-n
+returns-in_err-n c =
     let s = c.args.field.now in
-    (search rules, rw c.with_digit-n.ensures (sym (number_next l.n s l.i (search rules)) ∙ l.invariant.1))
+    let h : c.loop-byte.byte-index < length s = omega arith in
+    c.from_residual.ensures
+    ∙ sym (number_stops c.loop-byte.n s c.loop-byte.byte-index h (sym c.with_digit.ensures ∙ c.in_err-n.was))
+    ∙ c.loop-byte.invariant
+    ∙ sym (some_digits s (search rules))
+
+pub loop-byte-preserved : goal.loop-byte-preserved
+loop-byte-preserved c =
+    let s = c.args.field.now in
+    let h : c.loop-byte.byte-index < length s = omega arith in
+    sym (number_goes_on c.loop-byte.n s c.loop-byte.byte-index c.in_ok-n.n h (sym c.with_digit.ensures ∙ c.in_ok-n.was)) ∙ c.loop-byte.invariant
 
 pub returns : goal.returns
 returns c =
-    let l = c.loop-i in sym (number_end l.n c.args.field.now l.i (search rules)) ∙ l.invariant.1
+    let s = c.args.field.now in
+    sym (number_ends c.loop-byte.n s c.loop-byte.byte-index (omega arith)) ∙ c.loop-byte.invariant ∙ sym (some_digits s (search rules))

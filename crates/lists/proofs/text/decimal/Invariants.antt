@@ -1,13 +1,7 @@
--- `lists::text::decimal` meets its contract: each turn takes a digit off what is left.
--- Assumes nothing.
-use mathlib.Core.Path.{◌≡◌}
-use Prim.Native.Nat.{◌-◌, ◌≤◌}
-use lib.ListN.{length, drop}
-use Rattle.lists.specs.Text.{number_from, number_of}
+-- `lists::text::decimal`: each turn takes a digit off what is left.
+use Rattle.std.proofs.Common.{◌≡◌, drop}
+use Rattle.lists.specs.Text.{number_from}
 use Rattle.lists.proofs.text.decimal.Given as goal
 
-abbrev pub invariant-loop-i : goal.invariant-loop-i
-invariant-loop-i l = (l.i ≤ length l.field) × (number_from l.n (drop l.i l.field) ≡ number_of l.field)
-
-abbrev pub decreases-loop-i : goal.decreases-loop-i
-decreases-loop-i l = length l.field - l.i
+abbrev pub invariant-loop-byte : goal.invariant-loop-byte
+invariant-loop-byte l = number_from l.n (drop l.byte-index l.field) ≡ number_from 0 l.field

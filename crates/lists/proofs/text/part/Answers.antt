@@ -1,20 +1,13 @@
--- `lists::text::part` meets its contract: each turn takes a part off the front of what is left.
--- Assumes nothing.
-use mathlib.Core.Path.{◌≡◌, sym, ap, ◌∙◌}
-use Prim.Native.Nat.{ℕ, ◌-◌}
-use native.Mathlib.Omega.{arith}
-use borrow.Author.Rules.{rules}
-use Rattle.lists.specs.Text.{part_of}
-use Rattle.lists.proofs.Spelling.{this_part, parts_less}
+-- `lists::text::part`: the parts that `split` gives, as one list.
+use Rattle.std.proofs.Common.{refl, rules}
+use Rattle.lists.proofs.Parts.{part_or_none}
+use Rattle.std.specs.Prelude.{eqb}
+use Rattle.std.proofs.lemmas.Iterator.Consumers.{nth_from_yields_List}
+use Rattle.std.proofs.lemmas.Iterator.Splits.{YieldsList-from_slice_split}
 use Rattle.lists.proofs.text.part.Goals as goal
-
-pub loop-init : goal.loop-init
-loop-init c = (search rules, search rules, ap (λ (n : ℕ). part_of c.args.separator n c.args.text.now) (omega arith))
-
-pub loop-preserved : goal.loop-preserved
-loop-preserved c = (search rules, search rules, rw c.next-from.ensures.text_value (sym (parts_less _ _ _ _ (search rules)) ∙ c.loop.invariant.2))
 
 pub returns : goal.returns
 returns c =
-    let e : c.args.k - c.loop.counter ≡ 0 = omega arith in
-    this_part _ _ _ _ c.find-to.ensures.value ∙ (rw e at c.loop.invariant.2)
+    let e = nth_from_yields_List c.nth.result _ c.args.k c.nth.ensures.ran
+        (YieldsList-from_slice_split _ (λ x. eqb x c.args.separator) c.args.text.now c.split.ensures.rest c.split.ensures.done c.split.ensures.closure (λ x b q k. search rules)) in
+    rw (c.unwrap_or.ensures, ← e) (part_or_none c.nth.result _ refl)
