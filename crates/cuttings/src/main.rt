@@ -8,64 +8,52 @@ mod script;
 mod stage;
 mod steps;
 
+use crate::script::Script;
+use crate::steps::Call;
 use differences::tally::Tally;
 use lists::text;
 use replay::{cases, report};
 use std::io;
-use steps::Call;
 
-// The field with a line's first script, by the line's first word; no line reaches so far where the word is neither.
-fn first_script(text: &[u8]) -> usize {
-    let word = text::field(text, 0);
-    if check::same(word, b"cut") {
-        return 9;
+// The scripts of a line, from this field on, each a case.
+fn scripts<F: Fn(&[u8], &Script, usize, Tally<Call>) -> Option<Tally<Call>>>(
+    text: &[u8],
+    first: usize,
+    line: usize,
+    tally: Tally<Call>,
+    replayed: F,
+) -> Tally<Call>
+    requires { F.IsAlwaysCallable replayed }
+{
+    if text::ends(text, first) {
+        return tally.with_bad_line(line).with_case();
     }
-    if check::same(word, b"stage") {
-        return 6;
+    let mut tally = tally;
+    for field in text.split(|byte| *byte == b' ').skip(first) {
+        let after = match Script::read(field) {
+            Some(script) => replayed(text, &script, line, tally),
+            None => None,
+        };
+        tally = after.unwrap_or(tally.with_bad_line(line)).with_case();
     }
-    usize::MAX
+    tally
 }
 
-// The script in field `k` of a line.
-fn replayed(text: &[u8], k: usize, line: usize, tally: Tally<Call>) -> Tally<Call> {
-    let s = script::read(text::field(text, k));
-    if !s.good {
-        return tally.with_bad_line(line);
+// The first word says where the answers stand.
+fn replayed(text: &[u8], line: usize, tally: Tally<Call>) -> Tally<Call> {
+    match text::field(text, 0) {
+        b"cut" => scripts(text, 9, line, tally, cut::replayed),
+        b"stage" => scripts(text, 6, line, tally, stage::replayed),
+        _ => tally.with_bad_line(line).with_case(),
     }
-    if check::same(text::field(text, 0), b"cut") {
-        return cut::replayed(text, s, line, tally);
-    }
-    stage::replayed(text, s, line, tally)
-}
-
-// The scripts of a line, each a case.
-fn scripts(text: &[u8], line: usize, tally: Tally<Call>) -> Tally<Call> {
-    let mut t = tally;
-    let mut k = first_script(text);
-    while k < text.len() {
-        if text::ends(text, k) {
-            return t;
-        }
-        t = replayed(text, k, line, t).with_case();
-        k += 1;
-    }
-    t
-}
-
-// One line more. Whatever is no comment has a script.
-fn line(text: &[u8], number: usize, tally: Tally<Call>) -> Tally<Call> {
-    if text::ends(text, first_script(text)) {
-        return tally.with_bad_line(number).with_case();
-    }
-    scripts(text, number, tally)
 }
 
 // The spoilt list shows that a difference is told; it is no part of the total.
 fn main(rt: HostRuntime) -> io::Result<()> {
-    cases::list(&rt, b"spoilt.txt", line)?;
-    let mut total = cases::list(&rt, b"cuttings.txt", line)?;
-    total = total.and(cases::list(&rt, b"stages.txt", line)?);
-    total = total.and(cases::list(&rt, b"limits.txt", line)?);
+    cases::list(&rt, b"spoilt.txt", replayed)?;
+    let mut total = cases::list(&rt, b"cuttings.txt", replayed)?;
+    total = total.and(cases::list(&rt, b"stages.txt", replayed)?);
+    total = total.and(cases::list(&rt, b"limits.txt", replayed)?);
     report::total(&rt, total)?;
     Ok(())
 }

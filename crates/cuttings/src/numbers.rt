@@ -1,13 +1,10 @@
 // The numbers in the fields of a line.
 use lists::text;
 
-// Above every number that a field spells: the field spells none.
-pub const NONE: usize = 0xffffffff;
-
-pub fn at(line: &[u8], k: usize) -> usize {
-    text::decimal(text::field(line, k)).unwrap_or(NONE)
+pub fn at(line: &[u8], k: usize) -> Option<usize> {
+    text::decimal(text::field(line, k))
 }
 
-pub fn byte(n: usize) -> u8 {
-    (n % 256) as u8
+pub fn byte_at(line: &[u8], k: usize) -> Option<u8> {
+    u8::try_from(at(line, k)?).ok()
 }

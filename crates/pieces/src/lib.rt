@@ -30,7 +30,7 @@ const MOST_ROWS: usize = 131072;
 // What has been taken so far comes to: begin's number, the stage, the expanded key, the nonce, Auth, the checksum, the bytes taken and the
 // block cipher calls made. It holds key material.
 #[repr(C)]
-#[derive(Clone, Copy)]
+#[derive(Clone, Copy, PartialEq, Eq)]
 pub struct Pieces {
     pub number: u8,
     pub stage: u8,

@@ -13,7 +13,7 @@ use lists::text;
 use replay::{cases, report};
 use std::{fmt, io};
 
-#[derive(Clone, Copy, PartialEq, Eq)]
+#[derive(Clone, Copy)]
 pub enum Call {
     Writing,
     WritingRowData,
@@ -32,26 +32,21 @@ impl fmt::Display for Call {
     }
 }
 
-// The case on a line: its first word says what is called.
-fn replayed(text: &[u8], line: usize, tally: Tally<Call>) -> Tally<Call> {
-    let word = text::field(text, 0);
-    if check::same(word, b"write") {
-        return writing::replayed(text, Call::Writing, line, tally);
+// The first word says what is called; none where the line is no case.
+fn replayed(text: &[u8], line: usize, tally: Tally<Call>) -> Option<Tally<Call>> {
+    match text::field(text, 0) {
+        b"write" => writing::replayed(text, line, tally, Call::Writing, writing::record),
+        b"data" => writing::replayed(text, line, tally, Call::WritingRowData, writing::row_data),
+        b"read" => reading::replayed(text, line, tally, Call::Reading, reading::record),
+        b"bundle" => reading::replayed(text, line, tally, Call::ReadingABundle, reading::bundle),
+        _ => None,
     }
-    if check::same(word, b"data") {
-        return writing::replayed(text, Call::WritingRowData, line, tally);
-    }
-    if check::same(word, b"read") {
-        return reading::replayed(text, Call::Reading, line, tally);
-    }
-    if check::same(word, b"bundle") {
-        return reading::replayed(text, Call::ReadingABundle, line, tally);
-    }
-    tally.with_bad_line(line)
 }
 
 fn case(text: &[u8], line: usize, tally: Tally<Call>) -> Tally<Call> {
-    replayed(text, line, tally).with_case()
+    replayed(text, line, tally)
+        .unwrap_or(tally.with_bad_line(line))
+        .with_case()
 }
 
 // The spoilt list shows that a difference is told; it is no part of the total.

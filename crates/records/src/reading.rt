@@ -1,8 +1,7 @@
 // Lines `read BYTES FROM TO PLACE ANSWERS..` and `bundle BYTES FROM TO 0 ANSWERS..`: the first FROM bytes are read, and one more each time
 // up to TO, with the same answers.
-use crate::answers::ANSWERS;
 use crate::{Call, answers, spelling};
-use differences::tally::Tally;
+use differences::tally::{Tally, What};
 use lists::text;
 
 // More than 65 of the longest records.
@@ -10,16 +9,35 @@ const ROOM: usize = 340000;
 
 const FIRST: usize = 5;
 
-fn answered(call: Call, bytes: &[u8], at: usize) -> [usize; ANSWERS] {
-    if call == Call::ReadingABundle {
-        let b = record::reader::read_bundle(bytes);
-        return [b.number as usize, b.records, 0, 0, 0, 0, 0, 0, 0, 0, 0];
+// The bytes to the greatest length, the least length, and the place that a record is read at.
+#[derive(Clone, Copy)]
+struct Case<'a> {
+    bytes: &'a [u8],
+    from: usize,
+    place: usize,
+}
+
+impl<'a> Case<'a> {
+    fn read(line: &[u8], room: &'a mut [u8]) -> Option<Case<'a>> {
+        let length = spelling::laid(text::field(line, 1), room, 0)?;
+        let from = spelling::number_at(line, 2)?;
+        let to = spelling::number_at(line, 3)?;
+        let place = spelling::number_at(line, 4)?;
+        if from > to || to > length {
+            return None;
+        }
+        let bytes = room.get(..to)?;
+        Some(Case { bytes, from, place })
     }
-    let r = record::reader::read(bytes, at);
-    [
-        r.number as usize,
-        r.suite as usize,
-        r.row as usize,
+}
+
+// What differs in a record that is read at a place.
+pub fn record(line: &[u8], bytes: &[u8], place: usize) -> Option<What> {
+    let r = record::reader::read(bytes, place);
+    let given = [
+        usize::from(r.number),
+        usize::from(r.suite),
+        usize::from(r.row),
         r.nonce,
         r.nonce_length,
         r.note,
@@ -28,37 +46,32 @@ fn answered(call: Call, bytes: &[u8], at: usize) -> [usize; ANSWERS] {
         r.cipher_length,
         r.tag,
         r.length,
-    ]
+    ];
+    answers::differ(line, FIRST, &given, true)
 }
 
-// Every length from the first to that of all bytes.
-fn lengths(
+// A bundle is read from its start.
+pub fn bundle(line: &[u8], bytes: &[u8], _place: usize) -> Option<What> {
+    let b = record::reader::read_bundle(bytes);
+    answers::differ(line, FIRST, &[usize::from(b.number), b.records], true)
+}
+
+// Every length from the least to that of all bytes, each a call; none where the line is no case.
+pub fn replayed<F: Fn(&[u8], &[u8], usize) -> Option<What>>(
     text: &[u8],
-    call: Call,
-    bytes: &[u8],
-    from: usize,
     line: usize,
     tally: Tally<Call>,
-) -> Tally<Call> {
-    let mut t = tally;
-    let mut n = from;
-    while n <= bytes.len() {
-        let given = answered(call, &bytes[0..n], spelling::number_at(text, 4));
-        t = t.with_call(line, call, answers::differ(text, FIRST, given, true));
-        n += 1;
-    }
-    t
-}
-
-pub fn replayed(text: &[u8], call: Call, line: usize, tally: Tally<Call>) -> Tally<Call> {
+    call: Call,
+    differs: F,
+) -> Option<Tally<Call>>
+    requires { F.IsAlwaysCallable differs }
+{
     let mut room = [0u8; ROOM];
-    let length = spelling::laid(text::field(text, 1), &mut room, 0);
-    let from = spelling::number_at(text, 2);
-    let to = spelling::number_at(text, 3);
-    let place = spelling::number_at(text, 4);
-    if from <= to && to <= length && length <= ROOM && place != spelling::NONE {
-        let bytes = spelling::between(&room, 0, to);
-        return lengths(text, call, bytes, from, line, tally);
+    let case = Case::read(text, &mut room)?;
+    let mut tally = tally;
+    for n in case.from..=case.bytes.len() {
+        let what = differs(text, &case.bytes[..n], case.place);
+        tally = tally.with_call(line, call, what);
     }
-    tally.with_bad_line(line)
+    Some(tally)
 }

@@ -1,8 +1,5 @@
 // Lines `write SUITE ROW NONCE NOTE CIPHERTEXT TAG ROOM BYTES ANSWERS..`: ROOM is how many bytes the destination has, and BYTES are to be
 // written into it. A line `data` has the same fields, of which row and note are handed over.
-ghost use Rattle.std.specs.Prelude.{◌≤◌, ◌+◌, length};
-
-use crate::spelling::between;
 use crate::{Call, answers, spelling};
 use differences::pattern;
 use differences::tally::{Tally, What};
@@ -16,83 +13,91 @@ const ROOM: usize = 5300;
 
 const FIRST: usize = 9;
 
-// The texts one after the other, and where each ends.
+// What a record is written from.
 #[derive(Clone, Copy)]
-struct Texts {
-    bytes: [u8; ROOM],
-    nonce: usize,
-    note: usize,
-    cipher: usize,
-    tag: usize,
+pub struct Parts<'a> {
+    suite: u8,
+    row: u16,
+    nonce: &'a [u8],
+    note: &'a [u8],
+    cipher: &'a [u8],
+    tag: &'a [u8],
 }
 
-fn texts_of(line: &[u8]) -> Texts {
-    let mut bytes = [0u8; ROOM];
-    let nonce = spelling::laid(text::field(line, 3), &mut bytes, 0);
-    let note = spelling::laid(text::field(line, 4), &mut bytes, nonce);
-    let cipher = spelling::laid(text::field(line, 5), &mut bytes, note);
-    let tag = spelling::laid(text::field(line, 6), &mut bytes, cipher);
-    Texts {
-        bytes,
-        nonce,
-        note,
-        cipher,
-        tag,
+impl<'a> Parts<'a> {
+    // The texts are laid into the room one after the other.
+    fn read(line: &[u8], room: &'a mut [u8]) -> Option<Parts<'a>> {
+        let suite = u8::try_from(spelling::number_at(line, 1)?).ok()?;
+        let row = u16::try_from(spelling::number_at(line, 2)?).ok()?;
+        let nonce = spelling::laid(text::field(line, 3), room, 0)?;
+        let note = spelling::laid(text::field(line, 4), room, nonce)?;
+        let cipher = spelling::laid(text::field(line, 5), room, note)?;
+        let tag = spelling::laid(text::field(line, 6), room, cipher)?;
+        Some(Parts {
+            suite,
+            row,
+            nonce: room.get(..nonce)?,
+            note: room.get(nonce..note)?,
+            cipher: room.get(note..cipher)?,
+            tag: room.get(cipher..tag)?,
+        })
     }
 }
 
-fn written(line: &[u8], call: Call, t: Texts, n: usize, room: &mut [u8]) -> Written
-    requires { 16 + n ≤ length room.old }
-{
-    let bytes = t.bytes;
-    let suite = (spelling::number_at(line, 1) % 256) as u8;
-    let row = (spelling::number_at(line, 2) % 65536) as u16;
-    let nonce = between(&bytes, 0, t.nonce);
-    let note = between(&bytes, t.nonce, t.note);
-    let cipher = between(&bytes, t.note, t.cipher);
-    let tag = between(&bytes, t.cipher, t.tag);
-    let destination = &mut room[BEFORE..BEFORE + n];
-    if call == Call::WritingRowData {
-        return record::writer::write_row_data(row, note, destination);
-    }
-    record::writer::write(suite, row, nonce, note, cipher, tag, destination)
+pub fn record(parts: &Parts, destination: &mut [u8]) -> Written {
+    record::writer::write(
+        parts.suite,
+        parts.row,
+        parts.nonce,
+        parts.note,
+        parts.cipher,
+        parts.tag,
+        destination,
+    )
 }
 
-fn compared(
-    text: &[u8],
-    call: Call,
-    t: Texts,
-    n: usize,
-    room: &mut [u8; ROOM],
-    wanted: &[u8; ROOM],
-) -> Option<What>
-    requires { n ≤ 5284 }
-{
-    let w = written(text, call, t, n, room);
-    let given = [w.number as usize, w.length, 0, 0, 0, 0, 0, 0, 0, 0, 0];
-    answers::differ(text, FIRST, given, check::same(room, wanted))
+pub fn row_data(parts: &Parts, destination: &mut [u8]) -> Written {
+    record::writer::write_row_data(parts.row, parts.note, destination)
 }
 
-// A room of the pattern, with a text where the destination starts; where the text ends.
-fn lay(field: &[u8], room: &mut [u8; ROOM]) -> usize {
+// The room as it is to be after the call.
+fn lay_wanted(line: &[u8], room: &mut [u8]) -> Option<usize> {
     pattern::fill(room, pattern::BUFFER);
-    spelling::laid(field, room, BEFORE)
+    spelling::laid(text::field(line, 8), room, BEFORE)
 }
 
-pub fn replayed(text: &[u8], call: Call, line: usize, tally: Tally<Call>) -> Tally<Call> {
-    let t = texts_of(text);
-    let suite = spelling::number_at(text, 1);
-    let row = spelling::number_at(text, 2);
-    let n = spelling::number_at(text, 7);
-    let mut room = [0u8; ROOM];
+// Writes into the room, and compares what was answered.
+fn compared<F: Fn(&Parts, &mut [u8]) -> Written>(
+    line: &[u8],
+    room: &mut [u8],
+    wanted: &[u8],
+    write: F,
+) -> Option<Option<What>>
+    requires { F.IsAlwaysCallable write }
+{
+    let mut texts = [0u8; ROOM];
+    let parts = Parts::read(line, &mut texts)?;
+    let n = spelling::number_at(line, 7)?;
+    pattern::fill(room, pattern::BUFFER);
+    let destination = room.get_mut(BEFORE..)?.get_mut(..n)?;
+    let written = write(&parts, destination);
+    let given = [usize::from(written.number), written.length];
+    Some(answers::differ(line, FIRST, &given, &*room == wanted))
+}
+
+// The call on a line; none where the line is no case.
+pub fn replayed<F: Fn(&Parts, &mut [u8]) -> Written>(
+    text: &[u8],
+    line: usize,
+    tally: Tally<Call>,
+    call: Call,
+    write: F,
+) -> Option<Tally<Call>>
+    requires { F.IsAlwaysCallable write }
+{
     let mut wanted = [0u8; ROOM];
-    lay(b"-", &mut room);
-    let end = lay(text::field(text, 8), &mut wanted);
-    if suite < 256 && row < 65536 && t.tag <= ROOM && end <= ROOM {
-        if n <= ROOM - BEFORE {
-            let what = compared(text, call, t, n, &mut room, &wanted);
-            return tally.with_call(line, call, what);
-        }
-    }
-    tally.with_bad_line(line)
+    lay_wanted(text, &mut wanted)?;
+    let mut room = [0u8; ROOM];
+    let what = compared(text, &mut room, &wanted, write)?;
+    Some(tally.with_call(line, call, what))
 }
