@@ -46,20 +46,18 @@ pub fn seal(suite: u8, key: &[u8], nonce: &[u8], ad: &[u8], buffer: &mut [u8]) -
     ensures { SealAllows suite key.now nonce.now ad.now buffer.old
         (record { answer = result; buffer = buffer.new }) }
 {
-    let number = suites::refusal(suite, key.len(), nonce.len(), ad.len(), buffer.len());
-    if number != 0 {
+    if let Err(refused) = suites::refusal(suite, key.len(), nonce.len(), ad.len(), buffer.len()) {
         return Sealed {
-            number,
-            tag: [0u8; 16],
+            number: refused.number(),
+            tag: [0; 16],
             rows: 0,
         };
     }
-    let tagged = protect(suite, key, nonce, ad, buffer);
-    let tag = tagged.tag;
+    let modes::Tagged { tag, count } = protect(suite, key, nonce, ad, buffer);
     Sealed {
         number: 0,
         tag,
-        rows: tagged.count.rows,
+        rows: count.rows,
     }
 }
 
@@ -88,9 +86,11 @@ pub fn open(suite: u8, key: &[u8], nonce: &[u8], ad: &[u8], buffer: &mut [u8], t
     ensures { OpenAllows suite key.now nonce.now ad.now buffer.old tag.now
         (record { answer = result; buffer = buffer.new }) }
 {
-    let number = suites::refusal(suite, key.len(), nonce.len(), ad.len(), buffer.len());
-    if number != 0 {
-        return Opened { number, rows: 0 };
+    if let Err(refused) = suites::refusal(suite, key.len(), nonce.len(), ad.len(), buffer.len()) {
+        return Opened {
+            number: refused.number(),
+            rows: 0,
+        };
     }
     if tag.len() != 16 {
         return Opened {
@@ -100,9 +100,8 @@ pub fn open(suite: u8, key: &[u8], nonce: &[u8], ad: &[u8], buffer: &mut [u8], t
     }
     let given = octets::read_block(tag, 0);
     let tagged = recover(suite, key, nonce, ad, buffer, given);
-    let computed = tagged.tag;
     let rows = tagged.count.rows;
-    if octets::same_block(given, computed) {
+    if octets::same_block(given, tagged.tag) {
         return Opened { number: 0, rows };
     }
     octets::clear(buffer);

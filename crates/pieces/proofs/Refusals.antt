@@ -16,10 +16,6 @@ use Rattle.pieces.specs.ByPieces.{begin_refusal, sound, state_refusal, take_refu
 -- ---- begin
 
 module _ (suite key nonce ad : ℕ) where
-  pub other_suite : 2 < suite → 1 ≡ begin_refusal suite key nonce ad
-  unfolding begin_refusal
-  other_suite h = simp (lt-leb _ _ h)
-
   pub own_suite : suite ≤ 2 → refusal suite key nonce ad 0 ≡ begin_refusal suite key nonce ad
   unfolding begin_refusal
   own_suite h = simp (le-leb _ _ h)

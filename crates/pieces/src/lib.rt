@@ -4,12 +4,13 @@
 
 ghost use Rattle.std.specs.Prelude.{◌≡◌, ◌+◌, ◌%◌, eqb, ltb, length};
 ghost use Rattle.octets.specs.Octets.{pick};
+ghost use Rattle.suites.specs.Numbers.{answer_number};
 ghost use Rattle.suites.specs.Suites.{limit};
 ghost use Rattle.pieces.specs.ByPieces.{void, begin_refusal, sound, state_refusal, take_refusal, took, piece_text};
 ghost use Rattle.pieces.specs.ByPieces.{BeginAllows, TakeAllows, FinishAllows};
 
 use deoxys_bc::Count;
-use suites::LIMIT;
+use suites::{LIMIT, Refused};
 use tweakey::Subkeys;
 
 // The stages. Whatever is above FINISHED is finished too.
@@ -79,49 +80,37 @@ fn void(number: u8) -> Pieces
 }
 
 // Deoxys-II needs two passes: its suites are none here.
-#[tactic(auto, using(crate::proofs::Refusals::other_suite, crate::proofs::Refusals::own_suite))]
-fn begin_refusal(suite: u8, key: usize, nonce: usize, ad: usize) -> u8
-    ensures { result ≡ begin_refusal suite key nonce ad }
+#[tactic(auto, unfolding(crate::specs::ByPieces::begin_refusal))]
+fn begin_refusal(suite: u8, key: usize, nonce: usize, ad: usize) -> Result<(), Refused>
+    ensures { answer_number result ≡ begin_refusal suite key nonce ad }
 {
     if 2 < suite {
-        return 1;
+        return Err(Refused::Suite);
     }
     suites::refusal(suite, key, nonce, ad, 0)
-}
-
-// The nonce by value.
-fn kept(nonce: &[u8]) -> [u8; 8]
-    requires { length nonce.now ≡ 8 }
-    ensures { result ≡ nonce.now }
-{
-    let mut out = [0u8; 8];
-    for i in 0..8 {
-        out[i] = nonce[i];
-    }
-    out
 }
 
 // Nothing taken yet, and the associated data authenticated; or refused.
 pub fn begin(suite: u8, key: &[u8], nonce: &[u8], ad: &[u8]) -> Pieces
     ensures { BeginAllows suite key.now nonce.now ad.now result }
 {
-    let number = begin_refusal(suite, key.len(), nonce.len(), ad.len());
-    if number != 0 {
-        return void(number);
+    if let Err(refused) = begin_refusal(suite, key.len(), nonce.len(), ad.len()) {
+        return void(refused.number());
     }
     let keys = tweakey::precompute_subkeys(key);
     let tally = modes::compute_ad_tag(keys, ad);
     let auth = tally.sum;
-    let count = tally.count;
+    let mut own_nonce = [0u8; 8];
+    own_nonce.copy_from_slice(nonce);
     Pieces {
         number: 0,
         stage: OPEN,
         keys,
-        nonce: kept(nonce),
+        nonce: own_nonce,
         auth,
         checksum: [0u8; 16],
         total: 0,
-        count,
+        count: tally.count,
     }
 }
 

@@ -4,6 +4,7 @@
 
 ghost use Rattle.std.specs.Prelude.{◌≡◌, ◌*◌, ◌<◌, ◌≤◌, length, slice_get, Some, IsSome};
 ghost use Rattle.octets.specs.Octets.{blocks_of};
+ghost use Rattle.suites.specs.Numbers.{answer_number};
 ghost use Rattle.risk.specs.Labels.{
   block_label,
   tag_label,
@@ -18,6 +19,7 @@ ghost use Rattle.risk.specs.Labels.{
 ghost use Rattle.risk.specs.Words.{kind_word, direction_word, label_text};
 
 use std::fmt;
+use suites::Refused;
 
 // What a block cipher call is for.
 #[derive(Clone, Copy, PartialEq, Eq)]
@@ -106,9 +108,9 @@ fn block_label(kind: Kind, bytes: usize, i: usize) -> Label
 }
 
 impl Shape {
-    // The number by which a sealing is refused, or an opening with a tag of 16 bytes, where key and nonce fit; or 0.
-    pub fn refusal(self) -> u8
-        ensures { result ≡ refused self.suite self.ad self.message }
+    // What refuses a sealing, or an opening with a tag of 16 bytes, where key and nonce fit.
+    pub fn refusal(self) -> Result<(), Refused>
+        ensures { answer_number result ≡ refused self.suite self.ad self.message }
     {
         let key = suites::key_length(self.suite);
         let nonce = suites::nonce_length(self.suite);
@@ -120,7 +122,7 @@ impl Shape {
     pub fn rows(self) -> usize
         ensures { result ≡ length (risk_table self.suite self.ad self.message) }
     {
-        if self.refusal() != 0 {
+        if self.refusal().is_err() {
             return 0;
         }
         let a = blocks(self.ad);

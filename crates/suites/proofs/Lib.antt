@@ -1,3 +1,3 @@
-pub mod Lengths
+pub mod Numbers
 pub mod Refusals
 pub mod Values

@@ -3,70 +3,79 @@
 #![tactic(auto)]
 
 ghost use Rattle.std.specs.Prelude.{◌≡◌};
+ghost use Rattle.suites.specs.Numbers.{number_of, answer_number};
 ghost use Rattle.suites.specs.Suites.{key_length, nonce_length, refusal};
 
 // The most bytes of data, and of a text.
 pub const LIMIT: usize = 1048576;
 
+// What an entry point refuses by lengths alone, in the order of the checks.
+#[derive(Clone, Copy, Debug, PartialEq, Eq)]
+pub enum Refused {
+    Suite,
+    Key,
+    Nonce,
+    Data,
+    Text,
+}
+
+impl Refused {
+    // The number of document 01.
+    pub fn number(self) -> u8
+        ensures { result ≡ number_of self }
+    {
+        match self {
+            Refused::Suite => 1,
+            Refused::Key => 2,
+            Refused::Nonce => 3,
+            Refused::Data => 4,
+            Refused::Text => 5,
+        }
+    }
+}
+
+// A suite is a number, the form that document 01 names: an enum would be made from C's number and taken apart again at every call.
 // The length of a suite's key, and 0 for what is no suite.
-#[tactic(auto, using(crate::proofs::Lengths::keys))]
 pub fn key_length(suite: u8) -> usize
     ensures { result ≡ key_length suite }
 {
-    if suite == 1 {
-        return 16;
+    match suite {
+        1 | 3 => 16,
+        2 | 4 => 32,
+        _ => 0,
     }
-    if suite == 2 {
-        return 32;
-    }
-    if suite == 3 {
-        return 16;
-    }
-    if suite == 4 {
-        return 32;
-    }
-    0
 }
 
 // The length of a suite's nonce, and 0 for what is no suite.
-#[tactic(auto, using(crate::proofs::Lengths::nonces))]
 pub fn nonce_length(suite: u8) -> usize
     ensures { result ≡ nonce_length suite }
 {
-    if suite == 0 {
-        return 0;
+    match suite {
+        1 | 2 => 8,
+        3 | 4 => 15,
+        _ => 0,
     }
-    if suite <= 2 {
-        return 8;
-    }
-    if suite <= 4 {
-        return 15;
-    }
-    0
 }
 
-// The first of the numbers 1 to 5 that applies, or 0.
-#[tactic(auto, using(crate::proofs::Refusals::in_order))]
-pub fn refusal(suite: u8, key: usize, nonce: usize, ad: usize, text: usize) -> u8
-    ensures { result ≡ refusal suite key nonce ad text }
+// The first refusal that applies.
+#[tactic(auto, unfolding(crate::specs::Suites::refusal))]
+pub fn refusal(suite: u8, key: usize, nonce: usize, ad: usize, text: usize) -> Result<(), Refused>
+    ensures { answer_number result ≡ refusal suite key nonce ad text }
 {
-    if suite < 1 {
-        return 1;
-    }
-    if 4 < suite {
-        return 1;
+    if suite < 1 || 4 < suite {
+        return Err(Refused::Suite);
     }
     if key != key_length(suite) {
-        return 2;
+        return Err(Refused::Key);
     }
     if nonce != nonce_length(suite) {
-        return 3;
+        return Err(Refused::Nonce);
     }
     if LIMIT < ad {
-        return 4;
+        return Err(Refused::Data);
     }
     if LIMIT < text {
-        return 5;
+        return Err(Refused::Text);
     }
-    0
+    Ok(())
 }

@@ -12,6 +12,7 @@ use Rattle.modes.specs.Rows.{Outcome}
 use Rattle.modes.specs.Answers.{answered}
 use Rattle.modes.specs.declared.Tagged.{Tagged}
 use Rattle.deoxys.specs.Entry.{opened}
+use Rattle.suites.proofs.Numbers.{not_none}
 use Rattle.deoxys.proofs.Answers.{open_refused, open_tag_length, open_done, open_wrong_tag}
 use Rattle.deoxys.proofs.open.Goals as goal
 
@@ -35,14 +36,11 @@ module _ (made : List ℕ → Outcome) {block tag : List ℕ} {tagged : Tagged} 
 unequal : {x y : List ℕ} → same x y ≡ false → x ≡ y → ⊥
 unequal {x} {y} h e = false≢true (sym h ∙ ap (same x) (sym e) ∙ same_refl x)
 
-pub returns-then-number-ne0 : goal.returns-then-number-ne0
-returns-then-number-ne0 c = rw c.refusal-number.ensures (open_refused _ _ _ _ _ _ (λ e. c.if-number-ne0.true (c.refusal-number.ensures ∙ e)))
+pub returns-in-Err : goal.returns-in-Err
+returns-in-Err c = rw (c.number.ensures, c.in-Err.ensures) (open_refused _ _ _ _ _ _ (λ e. not_none _ (c.in-Err.ensures ∙ e)))
 
 pub returns-then-tag-ne16 : goal.returns-then-tag-ne16
-returns-then-tag-ne16 c = open_tag_length _ _ _ _ _ _ (sym c.refusal-number.ensures ∙ c.if-number-ne0.false) (λ e. omega (arith, c.if-tag-ne16.true))
-
-pub recover-tagged-requires : goal.recover-tagged-requires
-recover-tagged-requires c = sym c.refusal-number.ensures ∙ c.if-number-ne0.false
+returns-then-tag-ne16 c = open_tag_length _ _ _ _ _ _ (sym c.in_default.ensures) (λ e. omega (arith, c.if-tag-ne16.true))
 
 pub returns-then-same_block : goal.returns-then-same_block
 returns-then-same_block c =
@@ -50,7 +48,7 @@ returns-then-same_block c =
     let seen = same_eq _ _ (sym c.same_block.ensures ∙ c.if-same_block.true) in
     let right = agreed (opened _ _ _ _ _) whole c.recover-tagged.ensures.value (search (seen, sym seen)) in
     simp (c.recover-tagged.ensures.buffer_after, c.recover-tagged.ensures.value, whole)
-    (open_done _ _ _ _ _ _ (sym c.refusal-number.ensures ∙ c.if-number-ne0.false) (omega arith) right)
+    (open_done _ _ _ _ _ _ (sym c.in_default.ensures) (omega arith) right)
 
 pub returns : goal.returns
 returns c =
@@ -58,4 +56,4 @@ returns c =
     let seen = unequal (sym c.same_block.ensures ∙ c.if-same_block.false) in
     let wrong = differed (opened _ _ _ _ _) whole c.recover-tagged.ensures.value (λ e. seen (search (e, sym e))) in
     simp (c.clear.ensures, c.recover-tagged.auto.buffer, c.recover-tagged.ensures.value, whole)
-    (open_wrong_tag _ _ _ _ _ _ (sym c.refusal-number.ensures ∙ c.if-number-ne0.false) (omega arith) wrong)
+    (open_wrong_tag _ _ _ _ _ _ (sym c.in_default.ensures) (omega arith) wrong)
