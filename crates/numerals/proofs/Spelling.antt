@@ -1,15 +1,8 @@
 -- Digits read one by one, and the number kept from growing.
 -- Assumes nothing.
-use mathlib.Core.Path.{◌≡◌, refl, sym, ap, ◌∙◌}
-use mathlib.Core.Bool.{true, false}
-use mathlib.Core.Logic.{◌⊎◌, inl, inr}
-use mathlib.Core.List.{List, [], ◌∷◌}
-use Prim.Native.Nat.{ℕ, ◌+◌, ◌-◌, ◌*◌, ◌≤◌, ◌<◌, min}
-use native.Mathlib.Numerals.{add-one}
-use native.Mathlib.Omega.{arith}
-use lib.Dec.{ltb}
-use lib.ListN.{length, get_or, drop, drop_of_length-le}
-use lib.Seq.{drop-cons}
+use Rattle.std.specs.Prelude.{Some, None}
+use Rattle.std.proofs.Common.{◌≡◌, refl, sym, ap, ◌∙◌, true, false, ◌⊎◌, inl, inr, List, [], ◌∷◌, ℕ, ◌+◌, ◌-◌, ◌*◌, ◌≤◌, ◌<◌, min, add-one, arith, length, get_or, drop, drop-cons}
+use lib.ListN.{drop_of_length-le}
 use borrow.Author.Tests.{le-leb, lt-leb, lt-ltb}
 use Rattle.numerals.specs.Numbers.{is_digit, digits, value_after, number_of}
 
@@ -45,25 +38,25 @@ module _ (text : List ℕ) (value i : ℕ) (r : Reading text value i) where
       value_left = capped 1048577 (value * 10 + (get_or text i 0 - 48)) (drop (i + 1) text) ∙ (rw next at r.value_left);
     }
 
-    no_number : is_digit (get_or text i 0) ≡ false → record { valid = false; value = 0 } ≡ number_of text
+    no_number : is_digit (get_or text i 0) ≡ false → None ≡ number_of text
     unfolding digits number_of
     no_number e =
         let d : false ≡ digits text = rw (next, e) at r.digits-left in
         rw (← d, lt-ltb 0 (length text) (omega arith))
 
-    pub no_digit : (get_or text i 0 < 48) ⊎ (57 < get_or text i 0) → record { valid = false; value = 0 } ≡ number_of text
+    pub no_digit : (get_or text i 0 < 48) ⊎ (57 < get_or text i 0) → None ≡ number_of text
     no_digit (inl l) = no_number (rw (lt-leb _ _ l))
     no_digit (inr u) = no_number (rw (le-leb 48 (get_or text i 0) (omega arith), lt-leb _ _ u))
 
-pub reading_end : (text : List ℕ) (value i : ℕ) → Reading text value i → length text ≤ i
-    → record { valid = ltb 0 (length text); value = value } ≡ number_of text
+pub reading_end : (text : List ℕ) (value i : ℕ) → Reading text value i → 0 < length text → length text ≤ i → Some value ≡ number_of text
 unfolding digits value_after number_of
-reading_end [] value i r h =
-    let v : min value 1048577 ≡ 0 = rw (drop_of_length-le [] h) at r.value_left in
-    let e : value ≡ 0 = omega (arith, r.small) in
-    rw e
-reading_end (c ∷ text) value i r h =
-    let v = rw (drop_of_length-le (c ∷ text) h) at r.value_left in
-    let e : value ≡ min (value_after 0 (c ∷ text)) 1048577 = omega (arith, r.small) in
-    let d : true ≡ digits (c ∷ text) = rw (drop_of_length-le (c ∷ text) h) at r.digits-left in
-    rw (← d, ← e, lt-ltb 0 (length (c ∷ text)) (omega arith))
+reading_end text value i r some h =
+    let v = rw (drop_of_length-le text h) at r.value_left in
+    let e : value ≡ min (value_after 0 text) 1048577 = omega (arith, r.small) in
+    let d : true ≡ digits text = rw (drop_of_length-le text h) at r.digits-left in
+    rw (← d, ← e, lt-ltb 0 (length text) some)
+
+pub no_bytes : (text : List ℕ) → length text ≤ 0 → None ≡ number_of text
+unfolding number_of
+no_bytes [] h = refl
+no_bytes (c ∷ text) h = absurd (omega arith)

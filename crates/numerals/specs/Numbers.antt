@@ -1,8 +1,7 @@
 -- Numbers as the arguments spell them: decimal digits, and none above one more than document 01's limit, where all are refused alike.
 -- Assumes nothing.
-use Rattle.std.specs.Prelude.{Bool, true, false, List, [], ◌∷◌, ℕ, ◌+◌, ◌-◌, ◌*◌, min, leb, ltb, length}
+use Rattle.std.specs.Prelude.{Bool, true, false, List, [], ◌∷◌, ℕ, ◌+◌, ◌-◌, ◌*◌, min, leb, ltb, length, Option, Some, None}
 use Rattle.octets.specs.Octets.{pick}
-use Rattle.numerals.specs.declared.Number.{Number}
 
 abbrev pub is_digit : ℕ → Bool
 is_digit c = pick (leb 48 c) (leb c 57) false
@@ -16,7 +15,5 @@ unfoldable pub value_after : ℕ → List ℕ → ℕ
 value_after n [] = n
 value_after n (c ∷ text) = value_after (n * 10 + (c - 48)) text
 
-unfoldable pub number_of : List ℕ → Number
-number_of text =
-    pick (pick (ltb 0 (length text)) (digits text) false) (record { valid = true; value = min (value_after 0 text) 1048577 })
-    (record { valid = false; value = 0 })
+unfoldable pub number_of : List ℕ → Option ℕ
+number_of text = pick (pick (ltb 0 (length text)) (digits text) false) (Some (min (value_after 0 text) 1048577)) None

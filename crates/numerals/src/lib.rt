@@ -2,47 +2,25 @@
 
 #![tactic(auto)]
 
-ghost use Rattle.std.specs.Prelude.{◌≡◌, min};
+ghost use Rattle.std.specs.Prelude.{◌≡◌};
 ghost use Rattle.numerals.specs.Numbers.{number_of};
 
 // One above the limit: no larger length is told from it.
 const MOST: usize = 1048577;
 
-// Whether a text is a number, and which.
-#[derive(Clone, Copy)]
-pub struct Number {
-    pub valid: bool,
-    pub value: usize,
-}
-
-const NONE: Number = Number {
-    valid: false,
-    value: 0,
-};
-
-// The number that digits spell, or MOST where it is more.
-pub fn spelt(text: &[u8]) -> Number
+// The number that digits spell, or MOST where it is more. None where a byte is no digit, or there is none.
+pub fn spelt(text: &[u8]) -> Option<usize>
     ensures { result ≡ number_of text.now }
 {
-    let mut value: usize = 0;
-    for i in 0..text.len() {
-        let c = text[i];
-        if c < 48 {
-            return NONE;
-        }
-        if 57 < c {
-            return NONE;
-        }
-        value = least(value * 10 + (c - 48) as usize, MOST);
+    if text.is_empty() {
+        return None;
     }
-    Number {
-        valid: 0 < text.len(),
-        value,
+    let mut value = 0usize;
+    for byte in text {
+        if !byte.is_ascii_digit() {
+            return None;
+        }
+        value = (value * 10 + usize::from(byte - b'0')).min(MOST);
     }
-}
-
-fn least(a: usize, b: usize) -> usize
-    ensures { result ≡ min a b }
-{
-    if a < b { a } else { b }
+    Some(value)
 }

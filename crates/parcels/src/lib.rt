@@ -12,10 +12,7 @@ const TAG_BYTES: usize = 16;
 pub fn tag_at(bytes: usize) -> usize
     ensures { result ≡ bytes - 16 }
 {
-    if bytes < TAG_BYTES {
-        return 0;
-    }
-    bytes - TAG_BYTES
+    bytes.saturating_sub(TAG_BYTES)
 }
 
 // Opens the ciphertext in place, with the tag that follows it and stays.
@@ -24,9 +21,6 @@ pub fn open(suite: u8, key: &[u8], nonce: &[u8], ad: &[u8], file: &mut [u8]) -> 
         (opening suite key.now nonce.now ad.now (cipher_in file.old) (tag_in file.old)))
         × (drop (tag_at file.old) file.new ≡ tag_in file.old) }
 {
-    let at = tag_at(file.len());
-    let n = file.len() - at;
-    let mut tag = [0u8; 16];
-    tag[..n].copy_from_slice(&file[at..]);
-    deoxys::open(suite, key, nonce, ad, &mut file[..at], &tag[..n])
+    let (cipher, tag) = file.split_at_mut(tag_at(file.len()));
+    deoxys::open(suite, key, nonce, ad, cipher, tag)
 }

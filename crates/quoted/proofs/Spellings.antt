@@ -1,12 +1,13 @@
 -- The spelling of a byte case by case, and a note's laid byte by byte.
 -- Assumes nothing.
-use mathlib.Core.Path.{◌≡◌, refl, sym, ◌∙◌}
+use mathlib.Core.Path.{◌≡◌, sym, ◌∙◌}
 use mathlib.Core.List.{List, [], ◌∷◌, ◌++◌, append_assoc, append-nil}
 use Prim.Native.Nat.{ℕ, ◌+◌, ◌*◌, ◌/◌, ◌%◌, ◌≤◌, ◌<◌}
+use Rattle.std.specs.Prelude.{◌≢◌}
 use native.Mathlib.Numerals.{add-one}
 use native.Mathlib.Omega.{arith}
-use lib.ListN.{length, take, drop, get_or, length-append, drop_of_length-le}
-use lib.Seq.{drop-cons, length-take-le, take_at}
+use lib.ListN.{length, take, drop, get_or, drop_of_length-le}
+use lib.Seq.{drop-cons}
 use borrow.Author.Tests.{le-leb, lt-leb, ne_eqb}
 use Rattle.quoted.specs.Quoted.{digit, spelling, quoted}
 
@@ -21,34 +22,29 @@ unfolding digit
 high_digit n h = rw (lt-leb n 9 h)
 
 module _ (x : ℕ) where
-  pub below_printable : x < 0x20 → 0x5c ∷ 0x78 ∷ digit (x / 16) ∷ digit (x % 16) ∷ [] ≡ spelling x
+  pub below_printable : x < 0x20 → spelling x ≡ 0x5c ∷ 0x78 ∷ digit (x / 16) ∷ digit (x % 16) ∷ []
   unfolding spelling
   below_printable h = rw (lt-leb 0x20 x h)
 
-  pub above_printable : 0x7e < x → 0x5c ∷ 0x78 ∷ digit (x / 16) ∷ digit (x % 16) ∷ [] ≡ spelling x
+  pub above_printable : 0x7e < x → spelling x ≡ 0x5c ∷ 0x78 ∷ digit (x / 16) ∷ digit (x % 16) ∷ []
   unfolding spelling
   above_printable h = let k : 0x20 ≤ x = omega arith in rw (le-leb 0x20 x k, lt-leb x 0x7e h)
 
-  pub quote : x ≡ 0x22 → 0x5c ∷ x ∷ [] ≡ spelling x
+  pub quote : x ≡ 0x22 → spelling x ≡ 0x5c ∷ x ∷ []
   unfolding spelling
   quote e = rw e
 
-  pub backslash : x ≡ 0x5c → 0x5c ∷ x ∷ [] ≡ spelling x
+  pub backslash : x ≡ 0x5c → spelling x ≡ 0x5c ∷ x ∷ []
   unfolding spelling
   backslash e = rw e
 
-  pub itself : 0x20 ≤ x → x ≤ 0x7e → (x ≡ 0x22 → ⊥) → (x ≡ 0x5c → ⊥) → x ∷ [] ≡ spelling x
+  pub itself : 0x20 ≤ x → x ≤ 0x7e → x ≢ 0x22 → x ≢ 0x5c → spelling x ≡ x ∷ []
   unfolding spelling
   itself l u q b = rw (le-leb 0x20 x l, le-leb x 0x7e u, ne_eqb x 0x22 q, ne_eqb x 0x5c b)
 
--- ---- a note
+pub ruleset spellings = (below_printable, above_printable, quote, backslash, itself)
 
--- the spelling of a byte laid at a place, as a copy leaves it
-pub spelling_laid : (d bytes rest : List ℕ) (at n x : ℕ) → at ≤ length d → bytes ≡ spelling x → n ≡ length bytes
-    → take (at + n) (take at d ++ (bytes ++ rest)) ≡ take at d ++ spelling x
-spelling_laid d bytes rest at n x h e k =
-    let size : length (take at d ++ bytes) ≡ at + n = length-append (take at d) bytes ∙ rw (length-take-le at d h, k) in
-    rw (← append_assoc (take at d) bytes rest, take_at (take at d ++ bytes) rest (at + n) size, e)
+-- ---- a note
 
 -- before byte i: what lies in front of the place, and the spelling of what is left, are the whole
 pub record Laid (note d : List ℕ) (at i : ℕ) : Type 0 where
@@ -57,9 +53,6 @@ pub record Laid (note d : List ℕ) (at i : ℕ) : Type 0 where
   pub text : take at d ++ quoted (drop i note) ≡ quoted note
 
 module _ (note d : List ℕ) where
-  pub laid_start : Laid note d 0 0
-  laid_start = record { within = omega arith; short = omega arith; text = refl }
-
   module _ (at i : ℕ) (l : Laid note d at i) where
     pub laid_turn : i < length note → (d' : List ℕ) (at' : ℕ) → at' ≤ at + 4 → take at' d' ≡ take at d ++ spelling (get_or note i 0)
         → Laid note d' at' (i + 1)

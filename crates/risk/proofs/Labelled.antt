@@ -15,6 +15,8 @@ use Rattle.tweakey.specs.declared.Subkeys.{Subkeys}
 use Rattle.tweaks.specs.Tweaks.{numbered, nonce_tweak, keystream_tweak}
 use Rattle.modes.specs.Rows.{Row, enciphered, deciphered, Outcome, partial_row, text_rows, auth_rows, data_rows}
 use Rattle.suites.specs.Suites.{is_deoxys_i}
+use Rattle.risk.specs.declared.Kind.{Kind}
+use Rattle.risk.specs.declared.Kind.TheVariants.{Data, Message, Keystream}
 use Rattle.risk.specs.declared.Label.{Label}
 use Rattle.risk.specs.Labels.{block_labels, text_labels, tag_label, keystream_labels, labels, opening_labels}
 use Rattle.risk.specs.Tweaks.{tweak_of}
@@ -56,17 +58,17 @@ module _ (k : Subkeys) (f : Label → List ℕ) (d : Label → Bool) where
 
 -- ---- one text
 
-abbrev label : ℕ → ℕ → Bool → Label
+abbrev label : Kind → ℕ → Bool → Label
 label kind i partial = record { kind = kind; number = i; partial = partial }
 
 -- what the labels of a kind have for tweaks, and which way the calls of full blocks go; those of partial blocks encipher
-record Gives (f : Label → List ℕ) (d : Label → Bool) (kind : ℕ) (full part : ℕ → List ℕ) (way : Bool) : Type 0 where
+record Gives (f : Label → List ℕ) (d : Label → Bool) (kind : Kind) (full part : ℕ → List ℕ) (way : Bool) : Type 0 where
   whole : (i : ℕ) → f (label kind i false) ≡ full i
   partial : (i : ℕ) → f (label kind i true) ≡ part i
   whole_way : (i : ℕ) → d (label kind i false) ≡ way
   partial_way : (i : ℕ) → d (label kind i true) ≡ false
 
-module _ {f : Label → List ℕ} {d : Label → Bool} {kind : ℕ} {full part : ℕ → List ℕ} {way : Bool} (g : Gives f d kind full part way) (k : Subkeys)
+module _ {f : Label → List ℕ} {d : Label → Bool} {kind : Kind} {full part : ℕ → List ℕ} {way : Bool} (g : Gives f d kind full part way) (k : Subkeys)
     (bytes i : ℕ) where
   turn : (p : List ℕ) (rest : List Row) → 16 * i + 16 ≤ bytes → InStep k f d rest (block_labels kind bytes (blocks_of bytes - (i + 1)) (i + 1))
       → InStep k f d (direction way k (full i) p ∷ rest) (block_labels kind bytes (blocks_of bytes - i) i)
@@ -85,7 +87,7 @@ module _ {f : Label → List ℕ} {d : Label → Bool} {kind : ℕ} {full part :
       let z : blocks_of bytes - i ≡ 1 = omega arith in
       rw (z, lt-ltb _ _ h, g.partial i, g.partial_way i) (is (x ∷ s), tt)
 
-module _ {f : Label → List ℕ} {d : Label → Bool} {kind : ℕ} (k : Subkeys) where
+module _ {f : Label → List ℕ} {d : Label → Bool} {kind : Kind} (k : Subkeys) where
   text_calls : (byte last : ℕ) (s : List ℕ) → Gives f d kind (numbered byte) (numbered last) false → (n i : ℕ) → 16 * (n + i) ≤ length s
       → length s < 16 * (n + i) + 16 → InStep k f d (text_rows k byte last s n i) (block_labels kind (length s) (blocks_of (length s) - i) i)
   unfolding text_rows
@@ -113,9 +115,9 @@ module _ {f : Label → List ℕ} {d : Label → Bool} {kind : ℕ} (k : Subkeys
     crypt_calls s = rw sub-zero at (message_calls (length s) (length s / 16) 0 s (omega arith) (omega arith) (omega arith))
 
 -- Deoxys-II, the keystream
-module _ (f : Label → List ℕ) (d : Label → Bool) (k : Subkeys) (tag nonce : List ℕ) (g : (j : ℕ) (b : Bool) → f (label 3 j b) ≡ keystream_tweak tag j)
-    (w : (j : ℕ) (b : Bool) → d (label 3 j b) ≡ false) where
-  keystream_calls : (bytes n j : ℕ) → InStep k f d (II.keystream_from k tag nonce n j) (block_labels 3 bytes n j)
+module _ (f : Label → List ℕ) (d : Label → Bool) (k : Subkeys) (tag nonce : List ℕ) (g : (j : ℕ) (b : Bool) → f (label Keystream j b) ≡ keystream_tweak tag j)
+    (w : (j : ℕ) (b : Bool) → d (label Keystream j b) ≡ false) where
+  keystream_calls : (bytes n j : ℕ) → InStep k f d (II.keystream_from k tag nonce n j) (block_labels Keystream bytes n j)
   unfolding II.keystream_from block_labels InStep
   keystream_calls bytes zero j = tt
   keystream_calls bytes (suc n) j = rw (g j _, w j _) (refl, keystream_calls bytes n (j + 1))
@@ -141,20 +143,20 @@ module _ (suite : ℕ) (key nonce ad text tag : List ℕ) where
     abbrev d : Label → Bool
     d = deciphers opening suite
 
-    data_calls : InStep k f d (data_rows k ad) (text_labels 0 (length ad))
+    data_calls : InStep k f d (data_rows k ad) (text_labels Data (length ad))
     unfolding f tweak_of
     data_calls = auth_calls k 0x20 0x60 ad (record { whole = λ i. refl; partial = λ i. refl; whole_way = λ i. refl; partial_way = λ i. refl })
 
     -- the calls on full blocks of the message go that way
     module _ (way : Bool) (w : pick opening (is_deoxys_i suite) false ≡ way) (h : suite ≤ 2) where
-      on_message_i : Gives f d 1 (nonce_tweak 0 nonce) (nonce_tweak 4 nonce) way
+      on_message_i : Gives f d Message (nonce_tweak 0 nonce) (nonce_tweak 4 nonce) way
       unfolding f tweak_of
       on_message_i = record { whole = λ i. rw (le-leb _ _ h); partial = λ i. rw (le-leb _ _ h); whole_way = λ i. w; partial_way = λ i. refl }
 
       on_tag_i : (message : List ℕ) → (I.tag_row k nonce message).tweak ≡ f (tag_label suite (length message))
       unfolding f tweak_of
       on_tag_i message =
-          rw (le-leb _ _ h) (ap (λ (kind : ℕ). nonce_tweak kind nonce (blocks_of (length message))) (tag_kind (eqb (length message % 16) 0)))
+          rw (le-leb _ _ h, le-leb _ _ h) (ap (λ (kind : ℕ). nonce_tweak kind nonce (blocks_of (length message))) (tag_kind (eqb (length message % 16) 0)))
 
       -- the tag is of a message as long as the text
       tag_i_lem : (message : List ℕ) → length message ≡ length text → InStep k f d (I.tag_row k nonce message ∷ []) (tag_label suite (length text) ∷ [])
@@ -170,7 +172,7 @@ module _ (suite : ℕ) (key nonce ad text tag : List ℕ) where
           rw none (both k f d _ _ _ _ data_calls (both k f d _ _ _ _ (crypt_calls k way nonce on_message_i text) (tag_i_lem message e)))
 
     module _ (w : pick opening (is_deoxys_i suite) false ≡ false) (h : 2 < suite) where
-      message_ii : (message : List ℕ) → length message ≡ length text → InStep k f d (II.message_rows k message) (text_labels 1 (length text))
+      message_ii : (message : List ℕ) → length message ≡ length text → InStep k f d (II.message_rows k message) (text_labels Message (length text))
       unfolding f tweak_of
       message_ii message e =
           rw (← e)
@@ -179,7 +181,7 @@ module _ (suite : ℕ) (key nonce ad text tag : List ℕ) where
 
       tag_ii_lem : (message : List ℕ) → InStep k f d (II.tag_row k nonce ad message ∷ []) (tag_label suite (length text) ∷ [])
       unfolding f tweak_of
-      tag_ii_lem message = one k f d (II.tag_row k nonce ad message) (tag_label suite (length text)) (rw (lt-leb _ _ h)) (rw (lt-leb _ _ h))
+      tag_ii_lem message = one k f d (II.tag_row k nonce ad message) (tag_label suite (length text)) (rw (lt-leb _ _ h)) (rw (lt-leb _ _ h, lt-leb _ _ h))
 
       keystream_ii : (from : List ℕ) → tag ≡ from → InStep k f d (II.keystream_rows k from nonce text) (keystream_labels suite (length text))
       unfolding f tweak_of

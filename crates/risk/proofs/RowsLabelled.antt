@@ -18,6 +18,8 @@ use Rattle.deoxys.specs.Entry.{Opening, sealed, opened, sealing, opening}
 use Rattle.deoxys.proofs.Answers.{sealed_i, sealed_ii, opened_i, opened_ii}
 use Rattle.promises.specs.Statements.{Given}
 use Rattle.promises.proofs.Modes.{mode}
+use Rattle.risk.specs.declared.Kind.{Kind}
+use Rattle.risk.specs.declared.Kind.TheVariants.{Data, Message, Keystream}
 use Rattle.risk.specs.declared.Label.{Label}
 use Rattle.risk.specs.Labels.{block_labels, tag_label, labels, opening_labels, refused, risk_table, opening_table}
 use Rattle.risk.specs.Tweaks.{tweak_of}
@@ -104,17 +106,17 @@ module _ (suite : ℕ) (key nonce ad cipher tag : List ℕ) (given : Given key n
       either false e = rw (k, n, e)
 
 -- the worked instance: data 0; message 0 to 8; tag; keystream 0 to 8
-abbrev whole : ℕ → ℕ → Label
+abbrev whole : Kind → ℕ → Label
 whole kind i = record { kind = kind; number = i; partial = false }
 
 abbrev nine : List ℕ
 nine = 0 ∷ 1 ∷ 2 ∷ 3 ∷ 4 ∷ 5 ∷ 6 ∷ 7 ∷ 8 ∷ []
 
-pub twenty : labels 3 16 144 ≡ whole 0 0 ∷ (map (whole 1) nine ++ (tag_label 3 144 ∷ map (whole 3) nine))
+pub twenty : labels 3 16 144 ≡ whole Data 0 ∷ (map (whole Message) nine ++ (tag_label 3 144 ∷ map (whole Keystream) nine))
 unfolding labels block_labels
 twenty = refl
 
 -- and of an opening: data 0; keystream 0 to 8; message 0 to 8; tag
-pub twenty_opening : opening_labels 3 16 144 ≡ whole 0 0 ∷ (map (whole 3) nine ++ (map (whole 1) nine ++ (tag_label 3 144 ∷ [])))
+pub twenty_opening : opening_labels 3 16 144 ≡ whole Data 0 ∷ (map (whole Keystream) nine ++ (map (whole Message) nine ++ (tag_label 3 144 ∷ [])))
 unfolding opening_labels block_labels
 twenty_opening = refl

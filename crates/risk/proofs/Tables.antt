@@ -4,15 +4,20 @@ use mathlib.Core.Path.{◌≡◌, refl, sym, ap, ◌∙◌}
 use mathlib.Core.Bool.{Bool, true, false}
 use mathlib.Core.List.{List, [], ◌∷◌, ◌++◌}
 use Prim.Native.Nat.{ℕ, zero, suc, ◌+◌, ◌-◌, ◌*◌, ◌≤◌, ◌<◌}
-use native.Mathlib.Nat.{not-suc-le-zero}
+use native.Mathlib.Nat.{not-suc-le-zero, sub-zero}
+use Rattle.std.specs.Prelude.{Some, None, slice_get, ◌≢◌}
+use Rattle.std.proofs.lemmas.Option.{slice_get_past}
 use native.Mathlib.Omega.{arith}
 use lib.Dec.{eqb}
-use lib.ListN.{length, get_or, length-append, get_or-append, get_or-eq_default}
-use lib.Seq.{get_or-append-add}
+use lib.ListN.{length, length-append}
 use borrow.Author.Tests.{eq-eqb, ne_eqb, le-leb, lt-leb, eqb-true}
 use Rattle.octets.specs.Octets.{pick, blocks_of}
 use Rattle.suites.specs.Suites.{is_deoxys_i, key_length, nonce_length}
 use Rattle.suites.proofs.Refusals.{Good, good}
+use Rattle.risk.specs.declared.Kind.{Kind}
+use Rattle.risk.specs.declared.Kind.TheVariants.{Data, Message, Keystream}
+use Rattle.risk.specs.declared.Direction.{Direction}
+use Rattle.risk.specs.declared.Direction.TheVariants.{Sealing, Opening}
 use Rattle.risk.specs.declared.Label.{Label}
 use Rattle.risk.specs.Labels.{
   block_label,
@@ -25,12 +30,13 @@ use Rattle.risk.specs.Labels.{
   refused,
   risk_table,
   opening_table,
-  no_row,
+  labels_of,
+  table_of,
 }
 
 -- ---- the blocks of one text
 
-module _ (kind bytes : ℕ) where
+module _ (kind : Kind) (bytes : ℕ) where
   count : (n i : ℕ) → length (block_labels kind bytes n i) ≡ n
   unfolding block_labels
   count zero i = refl
@@ -39,26 +45,37 @@ module _ (kind bytes : ℕ) where
   pub text_count : length (text_labels kind bytes) ≡ blocks_of bytes
   text_count = count (blocks_of bytes) 0
 
-  place : (n i j : ℕ) → j < n → get_or (block_labels kind bytes n i) j no_row ≡ block_label kind bytes (i + j)
+  place : (n i j : ℕ) → j < n → slice_get (block_labels kind bytes n i) j ≡ Some (block_label kind bytes (i + j))
   unfolding block_labels
   place zero i j h = absurd (not-suc-le-zero h)
-  place (suc n) i zero h = let e : i ≡ i + 0 = omega arith in ap (block_label kind bytes) e
+  place (suc n) i zero h = let e : i ≡ i + 0 = omega arith in ap (λ (k : ℕ). Some (block_label kind bytes k)) e
   place (suc n) i (suc j) h =
       let e : i + 1 + j ≡ i + suc j = omega arith in
-      place n (i + 1) j (omega arith) ∙ ap (block_label kind bytes) e
+      place n (i + 1) j (omega arith) ∙ ap (λ (k : ℕ). Some (block_label kind bytes k)) e
 
-  pub text_place : (j : ℕ) → j < blocks_of bytes → get_or (text_labels kind bytes) j no_row ≡ block_label kind bytes j
-  text_place j h = let e : 0 + j ≡ j = omega arith in place (blocks_of bytes) 0 j h ∙ ap (block_label kind bytes) e
+  pub text_place : (j : ℕ) → j < blocks_of bytes → slice_get (text_labels kind bytes) j ≡ Some (block_label kind bytes j)
+  text_place j h = let e : 0 + j ≡ j = omega arith in place (blocks_of bytes) 0 j h ∙ ap (λ (k : ℕ). Some (block_label kind bytes k)) e
 
 -- ---- a list after another
 
-after : (p q : List Label) (i n : ℕ) → length p ≡ n → n ≤ i → get_or (p ++ q) i no_row ≡ get_or q (i - n) no_row
-after p q i n e h =
-    let s : i ≡ length p + (i - n) = omega arith in
-    ap (λ (k : ℕ). get_or (p ++ q) k no_row) s ∙ get_or-append-add p q (i - n) no_row
+after : (p q : List Label) (i : ℕ) → length p ≤ i → slice_get (p ++ q) i ≡ slice_get q (i - length p)
+after [] q i h = rw sub-zero
+after (x ∷ p) q zero h = absurd (not-suc-le-zero h)
+after (x ∷ p) q (suc i) h = let e : suc i - suc (length p) ≡ i - length p = omega arith in after p q i (omega arith) ∙ ap (slice_get q) (sym e)
 
-before : (p q : List Label) (i n : ℕ) → length p ≡ n → i < n → get_or (p ++ q) i no_row ≡ get_or p i no_row
-before p q i n e h = get_or-append p q no_row i (omega arith)
+before : (p q : List Label) (i : ℕ) → i < length p → slice_get (p ++ q) i ≡ slice_get p i
+before [] q i h = absurd (not-suc-le-zero h)
+before (x ∷ p) q zero h = refl
+before (x ∷ p) q (suc i) h = before p q i (omega arith)
+
+module _ (kind : Kind) (bytes : ℕ) (q : List Label) (i : ℕ) where
+  pub in_text : i < blocks_of bytes → slice_get (text_labels kind bytes ++ q) i ≡ Some (block_label kind bytes i)
+  in_text h = before (text_labels kind bytes) q i (rw (text_count kind bytes) h) ∙ text_place kind bytes i h
+
+  pub after_text : (n : ℕ) → n ≡ blocks_of bytes → n ≤ i → slice_get (text_labels kind bytes ++ q) i ≡ slice_get q (i - n)
+  after_text n e h =
+      let c : length (text_labels kind bytes) ≡ n = text_count kind bytes ∙ sym e in
+      rw c at (after (text_labels kind bytes) q i (rw c h))
 
 -- ---- the keystream
 
@@ -69,14 +86,14 @@ module _ (suite bytes : ℕ) where
   pub keystream_all : 2 < suite → blocks_of bytes ≡ length (keystream_labels suite bytes)
   keystream_all s = simp (lt-leb _ _ s, text_count)
 
-keystream_place : (b : Bool) (bytes j : ℕ) → j < length (pick b [] (text_labels 3 bytes))
-    → get_or (pick b [] (text_labels 3 bytes)) j no_row ≡ block_label 3 bytes j
+keystream_place : (b : Bool) (bytes j : ℕ) → j < length (pick b [] (text_labels Keystream bytes))
+    → slice_get (pick b [] (text_labels Keystream bytes)) j ≡ Some (block_label Keystream bytes j)
 keystream_place true bytes j h = absurd (not-suc-le-zero h)
-keystream_place false bytes j h = text_place 3 bytes j (rw (text_count 3 bytes) at h)
+keystream_place false bytes j h = text_place Keystream bytes j (rw (text_count Keystream bytes) at h)
 
-keystream_most : (b : Bool) (bytes : ℕ) → length (pick b [] (text_labels 3 bytes)) ≤ blocks_of bytes
+keystream_most : (b : Bool) (bytes : ℕ) → length (pick b [] (text_labels Keystream bytes)) ≤ blocks_of bytes
 keystream_most true bytes = omega arith
-keystream_most false bytes = rw (text_count 3 bytes) (omega arith)
+keystream_most false bytes = rw (text_count Keystream bytes) (omega arith)
 
 -- ---- how many rows
 
@@ -95,50 +112,46 @@ module _ (suite message j : ℕ) where
   abbrev keystream : List Label
   keystream = keystream_labels suite message
 
-  pub sealed_message : j < blocks_of message → block_label 1 message j ≡ get_or (labels suite 0 message) j no_row
+  pub sealed_message : j < blocks_of message → slice_get (labels suite 0 message) j ≡ Some (block_label Message message j)
   unfolding labels block_labels
-  sealed_message l = sym (before (text_labels 1 message) _ j _ (text_count 1 message) l ∙ text_place 1 message j l)
+  sealed_message l = in_text Message message _ j l
 
   module _ (h : j < length (labels suite 0 message)) (m : ℕ) (is_m : m ≡ blocks_of message) (l : m ≤ j) where
-    last : get_or (labels suite 0 message) j no_row ≡ get_or (tag_label suite message ∷ keystream) (j - m) no_row
+    last : slice_get (labels suite 0 message) j ≡ slice_get (tag_label suite message ∷ keystream) (j - m)
     unfolding labels block_labels
-    last = after (text_labels 1 message) _ j m (text_count 1 message ∙ sym is_m) l
+    last = after_text Message message _ j m is_m l
 
-    pub sealed_tag : j ≡ m → tag_label suite message ≡ get_or (labels suite 0 message) j no_row
-    sealed_tag e = let z : j - m ≡ 0 = omega arith in sym (last ∙ (rw z))
+    pub sealed_tag : j ≡ m → slice_get (labels suite 0 message) j ≡ Some (tag_label suite message)
+    sealed_tag e = let z : j - m ≡ 0 = omega arith in last ∙ (rw z)
 
-    pub sealed_keystream : (j ≡ m → ⊥) → block_label 3 message (j - m - 1) ≡ get_or (labels suite 0 message) j no_row
+    pub sealed_keystream : j ≢ m → slice_get (labels suite 0 message) j ≡ Some (block_label Keystream message (j - m - 1))
     sealed_keystream n =
         let z : j - m ≡ suc (j - m - 1) = omega (arith, n) in
         let c = labels_count suite 0 message in
-        sym (last ∙ ap (λ (p : ℕ). get_or (tag_label suite message ∷ keystream) p no_row) z ∙ keystream_place (is_deoxys_i suite) message _ (omega arith))
+        last ∙ ap (slice_get (tag_label suite message ∷ keystream)) z ∙ keystream_place (is_deoxys_i suite) message _ (omega arith)
 
   module _ (k : ℕ) (is-k : k ≡ length keystream) where
-    pub opened_keystream : j < k → block_label 3 message j ≡ get_or (opening_labels suite 0 message) j no_row
+    pub opened_keystream : j < k → slice_get (opening_labels suite 0 message) j ≡ Some (block_label Keystream message j)
     unfolding opening_labels block_labels
-    opened_keystream l = sym (before keystream _ j k (sym is-k) l ∙ keystream_place (is_deoxys_i suite) message j (omega arith))
+    opened_keystream l = before keystream _ j (omega arith) ∙ keystream_place (is_deoxys_i suite) message j (omega arith)
 
     module _ (l : k ≤ j) where
-      then : get_or (opening_labels suite 0 message) j no_row ≡ get_or (text_labels 1 message ++ (tag_label suite message ∷ [])) (j - k) no_row
+      then : slice_get (opening_labels suite 0 message) j ≡ slice_get (text_labels Message message ++ (tag_label suite message ∷ [])) (j - k)
       unfolding opening_labels block_labels
-      then = after keystream _ j k (sym is-k) l
+      then = rw (← is-k) at (after keystream (text_labels Message message ++ (tag_label suite message ∷ [])) j (omega arith))
 
-      pub opened_message : j - k < blocks_of message → block_label 1 message (j - k) ≡ get_or (opening_labels suite 0 message) j no_row
-      opened_message n = sym (then ∙ before (text_labels 1 message) _ (j - k) _ (text_count 1 message) n ∙ text_place 1 message (j - k) n)
+      pub opened_message : j - k < blocks_of message → slice_get (opening_labels suite 0 message) j ≡ Some (block_label Message message (j - k))
+      opened_message n = then ∙ in_text Message message _ (j - k) n
 
-      pub opened_tag : j < length (opening_labels suite 0 message) → blocks_of message ≤ j - k
-          → tag_label suite message ≡ get_or (opening_labels suite 0 message) j no_row
+      pub opened_tag : j < length (labels suite 0 message) → blocks_of message ≤ j - k
+          → slice_get (opening_labels suite 0 message) j ≡ Some (tag_label suite message)
       opened_tag h n =
-          let c = opening_labels_count suite 0 message in
+          let c = labels_count suite 0 message in
           let z : j - k - blocks_of message ≡ 0 = omega arith in
-          sym (then ∙ after (text_labels 1 message) _ (j - k) _ (text_count 1 message) n ∙ (rw z))
+          then ∙ after_text Message message _ (j - k) _ refl n ∙ (rw z)
 
-module _ (suite message j : ℕ) where
-  pub sealed_small : j < length (labels suite 0 message) → message ≤ 1048576 → j ≤ 1048576
-  sealed_small h l = omega (arith, labels_count suite 0 message, keystream_most (is_deoxys_i suite) message)
-
-  pub opened_small : j < length (opening_labels suite 0 message) → message ≤ 1048576 → j ≤ 1048576
-  opened_small h l = omega (arith, opening_labels_count suite 0 message, keystream_most (is_deoxys_i suite) message)
+pub small : (suite message j : ℕ) → j < length (labels suite 0 message) → message ≤ 1048576 → j ≤ 1048576
+small suite message j h l = omega (arith, labels_count suite 0 message, keystream_most (is_deoxys_i suite) message)
 
 -- ---- the tables
 
@@ -193,44 +206,33 @@ module _ (suite ad message : ℕ) where
 
 -- ---- a row of either table
 
-module _ (opening : Bool) (suite ad message : ℕ) where
-  abbrev table : List Label
-  table = pick opening (opening_table suite ad message) (risk_table suite ad message)
+module _ (suite ad message : ℕ) where
+  table_count : (d : Direction) → length (table_of d suite ad message) ≡ length (risk_table suite ad message)
+  table_count Sealing = refl
+  table_count Opening = tables_count suite ad message
 
-  abbrev later : List Label
-  later = pick opening (opening_labels suite 0 message) (labels suite 0 message)
-
-  table_count : length table ≡ length (risk_table suite ad message)
-  table_count = by opening
-    where
-      by : (b : Bool) → length (pick b (opening_table suite ad message) (risk_table suite ad message)) ≡ length (risk_table suite ad message)
-      by true = tables_count suite ad message
-      by false = refl
-
-  pub row_none : (i : ℕ) → length (risk_table suite ad message) ≤ i → no_row ≡ get_or table i no_row
-  row_none i h = sym (get_or-eq_default table no_row {n = i} (rw table_count h))
-
-  parts : refused suite ad message ≡ 0 → table ≡ text_labels 0 ad ++ later
+  parts : (d : Direction) → refused suite ad message ≡ 0 → table_of d suite ad message ≡ text_labels Data ad ++ labels_of d suite 0 message
   unfolding labels opening_labels block_labels
-  parts h = by opening
-    where
-      by : (b : Bool) → pick b (opening_table suite ad message) (risk_table suite ad message)
-          ≡ text_labels 0 ad ++ pick b (opening_labels suite 0 message) (labels suite 0 message)
-      by true = is_opening_labels suite ad message h
-      by false = is_labels suite ad message h
+  parts Sealing h = is_labels suite ad message h
+  parts Opening h = is_opening_labels suite ad message h
 
-  module _ (i : ℕ) (h : i < length (risk_table suite ad message)) where
-    whole : table ≡ text_labels 0 ad ++ later
-    whole = parts (not_refused suite ad message i h)
+  pub later_fits : (i a : ℕ) → i < length (risk_table suite ad message) → a ≡ blocks_of ad → a ≤ i
+      → (message ≤ 1048576) × (i - a < length (labels suite 0 message))
+  later_fits i a h is-a l =
+      let e : length (risk_table suite ad message) ≡ blocks_of ad + length (labels suite 0 message) =
+      rw (parts Sealing (not_refused suite ad message i h)) (simp (length-append, text_count)) in
+      ((fits suite ad message i h).text_fits, omega arith)
 
-    pub row_data_lem : i < blocks_of ad → block_label 0 ad i ≡ get_or table i no_row
-    row_data_lem l = sym (rw (whole) (before (text_labels 0 ad) later i _ (text_count 0 ad) l ∙ text_place 0 ad i l))
+module _ (d : Direction) (suite ad message i : ℕ) where
+  pub row_none : length (risk_table suite ad message) ≤ i → slice_get (table_of d suite ad message) i ≡ None
+  row_none h = slice_get_past (table_of d suite ad message) i (rw (table_count suite ad message d) h)
 
-    module _ (a : ℕ) (is-a : a ≡ blocks_of ad) (l : a ≤ i) where
-      pub row_later : get_or later (i - a) no_row ≡ get_or table i no_row
-      row_later = sym (rw (whole) (after (text_labels 0 ad) later i a (text_count 0 ad ∙ sym is-a) l))
+  module _ (h : i < length (risk_table suite ad message)) where
+    whole : table_of d suite ad message ≡ text_labels Data ad ++ labels_of d suite 0 message
+    whole = parts suite ad message d (not_refused suite ad message i h)
 
-      pub later_fits : (message ≤ 1048576) × (i - a < length later)
-      later_fits =
-          let e : length table ≡ blocks_of ad + length later = rw whole (simp (length-append, text_count)) in
-          ((fits suite ad message i h).text_fits, omega (arith, table_count))
+    pub row_data_lem : i < blocks_of ad → slice_get (table_of d suite ad message) i ≡ Some (block_label Data ad i)
+    row_data_lem l = rw whole (in_text Data ad _ i l)
+
+    pub row_later : (a : ℕ) → a ≡ blocks_of ad → a ≤ i → slice_get (table_of d suite ad message) i ≡ slice_get (labels_of d suite 0 message) (i - a)
+    row_later a is-a l = rw whole (after_text Data ad _ i a is-a l)

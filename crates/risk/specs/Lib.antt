@@ -1,3 +1,4 @@
 pub mod Labels
 pub mod Tweaks
 pub mod Calls
+pub mod Words

@@ -2,8 +2,9 @@
 
 #![tactic(auto)]
 
-ghost use Rattle.std.specs.Prelude.{◌≡◌, ◌+◌, ◌*◌, ◌<◌, ◌≤◌, length, get_or};
-ghost use Rattle.octets.specs.Octets.{pick, blocks_of};
+ghost use Rattle.std.specs.Prelude.{◌≡◌, ◌*◌, ◌<◌, ◌≤◌, length, slice_get, Some, IsSome};
+ghost use Rattle.octets.specs.Octets.{blocks_of};
+ghost use Rattle.suites.specs.Numbers.{answer_number};
 ghost use Rattle.risk.specs.Labels.{
   block_label,
   tag_label,
@@ -12,65 +13,90 @@ ghost use Rattle.risk.specs.Labels.{
   opening_labels,
   refused,
   risk_table,
-  opening_table,
-  no_row,
+  labels_of,
+  table_of,
 };
+ghost use Rattle.risk.specs.Words.{kind_word, direction_word, label_text};
 
-pub const DATA: u8 = 0;
+use std::fmt;
+use suites::Refused;
 
-pub const MESSAGE: u8 = 1;
+// What a block cipher call is for.
+#[derive(Clone, Copy, PartialEq, Eq)]
+pub enum Kind {
+    Data,
+    Message,
+    Tag,
+    Keystream,
+}
 
-pub const TAG: u8 = 2;
+impl fmt::Display for Kind {
+    ghost output = { λ kind. Some (kind_word kind) };
 
-pub const KEYSTREAM: u8 = 3;
+    fn fmt<W: fmt::Write>(&self, f: &mut fmt::Formatter<W>) -> fmt::Result {
+        f.write_str(match self {
+            Kind::Data => "data",
+            Kind::Message => "message",
+            Kind::Tag => "tag",
+            Kind::Keystream => "keystream",
+        })
+    }
+}
 
-pub const NO_ROW: u8 = 4;
+// Which of the two makes the calls: they make them in another order.
+#[derive(Clone, Copy, PartialEq, Eq)]
+pub enum Direction {
+    Sealing,
+    Opening,
+}
+
+impl fmt::Display for Direction {
+    ghost output = { λ direction. Some (direction_word direction) };
+
+    fn fmt<W: fmt::Write>(&self, f: &mut fmt::Formatter<W>) -> fmt::Result {
+        f.write_str(match self {
+            Direction::Sealing => "sealing",
+            Direction::Opening => "opening",
+        })
+    }
+}
 
 // What a row is for, its block number, and whether its block of text is partial.
 #[derive(Clone, Copy)]
 pub struct Label {
-    pub kind: u8,
+    pub kind: Kind,
     pub number: usize,
     pub partial: bool,
 }
 
-// The number by which a sealing is refused, or an opening with a tag of 16 bytes, where key and nonce fit; or 0.
-pub fn refusal(suite: u8, ad: usize, message: usize) -> u8
-    ensures { result ≡ refused suite ad message }
-{
-    let key = suites::key_length(suite);
-    let nonce = suites::nonce_length(suite);
-    match suites::refusal(suite, key, nonce, ad, message) {
-        Ok(()) => 0,
-        Err(refused) => refused.number(),
+impl fmt::Display for Label {
+    ghost output = { λ label. Some (label_text label) };
+
+    fn fmt<W: fmt::Write>(&self, f: &mut fmt::Formatter<W>) -> fmt::Result {
+        let kind = self.kind;
+        let number = self.number;
+        let extent = if self.partial { "partial" } else { "whole" };
+        write!(f, "{kind} {number} {extent}")
     }
+}
+
+// All that the tables depend on: the suite, and how many bytes of data and of message there are.
+#[derive(Clone, Copy)]
+pub struct Shape {
+    pub suite: u8,
+    pub ad: usize,
+    pub message: usize,
 }
 
 // A partial block is counted.
 fn blocks(bytes: usize) -> usize
-    requires { bytes ≤ 1048576 }
     ensures { result ≡ blocks_of bytes }
 {
-    (bytes + 15) / 16
-}
-
-// How many rows the sealing has, and the opening too: `tables_count` in proofs/Tables.
-pub fn rows(suite: u8, ad: usize, message: usize) -> usize
-    ensures { result ≡ length (risk_table suite ad message) }
-{
-    if refusal(suite, ad, message) != 0 {
-        return 0;
-    }
-    let a = blocks(ad);
-    let m = blocks(message);
-    if suite <= 2 {
-        return a + m + 1;
-    }
-    a + 2 * m + 1
+    bytes.div_ceil(16)
 }
 
 // Block i of a text of so many bytes.
-fn block_label(kind: u8, bytes: usize, i: usize) -> Label
+fn block_label(kind: Kind, bytes: usize, i: usize) -> Label
     requires { i ≤ 1048576 }
     ensures { result ≡ block_label kind bytes i }
 {
@@ -81,99 +107,119 @@ fn block_label(kind: u8, bytes: usize, i: usize) -> Label
     }
 }
 
-// The tag: in Deoxys-I its tweak numbers it and says whether the message ends in a partial block.
-fn tag_label(suite: u8, message: usize) -> Label
-    requires { message ≤ 1048576 }
-    ensures { result ≡ tag_label suite message }
-{
-    if suite <= 2 {
-        return Label {
-            kind: TAG,
-            number: blocks(message),
-            partial: message % 16 != 0,
-        };
+impl Shape {
+    // What refuses a sealing, or an opening with a tag of 16 bytes, where key and nonce fit.
+    pub fn refusal(self) -> Result<(), Refused>
+        ensures { answer_number result ≡ refused self.suite self.ad self.message }
+    {
+        let key = suites::key_length(self.suite);
+        let nonce = suites::nonce_length(self.suite);
+        suites::refusal(self.suite, key, nonce, self.ad, self.message)
     }
-    Label {
-        kind: TAG,
-        number: 0,
-        partial: false,
-    }
-}
 
-// The blocks of keystream: none in Deoxys-I.
-fn keystream_blocks(suite: u8, message: usize) -> usize
-    requires { message ≤ 1048576 }
-    ensures { result ≡ length (keystream_labels suite message) }
-{
-    if suite <= 2 {
-        return 0;
+    // How many rows the sealing has, and the opening too: `tables_count` in proofs/Tables.
+    #[tactic(auto, using(crate::proofs::Tables::table_none, crate::proofs::Tables::table_count_i, crate::proofs::Tables::table_count_ii))]
+    pub fn rows(self) -> usize
+        ensures { result ≡ length (risk_table self.suite self.ad self.message) }
+    {
+        if self.refusal().is_err() {
+            return 0;
+        }
+        let a = blocks(self.ad);
+        let m = blocks(self.message);
+        if self.suite <= 2 {
+            return a + m + 1;
+        }
+        a + 2 * m + 1
     }
-    blocks(message)
-}
 
-// Row j of a sealing without data: message, tag, keystream.
-fn sealed_row(suite: u8, message: usize, j: usize) -> Label
-    requires { (message ≤ 1048576) × (j < length (labels suite 0 message)) }
-    ensures { result ≡ get_or (labels suite 0 message) j no_row }
-{
-    let m = blocks(message);
-    if j < m {
-        return block_label(MESSAGE, message, j);
-    }
-    if j == m {
-        return tag_label(suite, message);
-    }
-    block_label(KEYSTREAM, message, j - m - 1)
-}
-
-// Row j of an opening without data: keystream, message, tag.
-fn opened_row(suite: u8, message: usize, j: usize) -> Label
-    requires { (message ≤ 1048576) × (j < length (opening_labels suite 0 message)) }
-    ensures { result ≡ get_or (opening_labels suite 0 message) j no_row }
-{
-    let k = keystream_blocks(suite, message);
-    if j < k {
-        return block_label(KEYSTREAM, message, j);
-    }
-    let n = j - k;
-    if n < blocks(message) {
-        return block_label(MESSAGE, message, n);
-    }
-    tag_label(suite, message)
-}
-
-// Row i of the one table or the other: the data's rows, and then those of a text without data.
-fn listed(opening: bool, suite: u8, ad: usize, message: usize, i: usize) -> Label
-    ensures { result ≡ get_or (pick opening (opening_table suite ad message) (risk_table suite ad message)) i no_row }
-{
-    if rows(suite, ad, message) <= i {
-        return Label {
-            kind: NO_ROW,
+    // The tag: in Deoxys-I its tweak numbers it and says whether the message ends in a partial block.
+    fn tag_label(self) -> Label
+        ensures { result ≡ tag_label self.suite self.message }
+    {
+        if self.suite <= 2 {
+            return Label {
+                kind: Kind::Tag,
+                number: blocks(self.message),
+                partial: self.message % 16 != 0,
+            };
+        }
+        Label {
+            kind: Kind::Tag,
             number: 0,
             partial: false,
-        };
+        }
     }
-    let a = blocks(ad);
-    if i < a {
-        return block_label(DATA, ad, i);
-    }
-    let j = i - a;
-    if opening {
-        return opened_row(suite, message, j);
-    }
-    sealed_row(suite, message, j)
-}
 
-// Row i of a sealing's table, counted from zero. Past its end stands NO_ROW.
-pub fn row(suite: u8, ad: usize, message: usize, i: usize) -> Label
-    ensures { result ≡ get_or (risk_table suite ad message) i no_row }
-{
-    listed(false, suite, ad, message, i)
-}
+    // The blocks of keystream: none in Deoxys-I.
+    #[tactic(auto, using(crate::proofs::Tables::keystream_none, crate::proofs::Tables::keystream_all))]
+    fn keystream_blocks(self) -> usize
+        ensures { result ≡ length (keystream_labels self.suite self.message) }
+    {
+        if self.suite <= 2 {
+            return 0;
+        }
+        blocks(self.message)
+    }
 
-// Row i of an opening's table, counted from zero. Past its end stands NO_ROW.
-pub fn opening_row(suite: u8, ad: usize, message: usize, i: usize) -> Label
-    ensures { result ≡ get_or (opening_table suite ad message) i no_row }
-{
-    listed(true, suite, ad, message, i)
+    // Row j of a sealing without data: message, tag, keystream.
+    #[tactic(auto, using(crate::proofs::Tables::sealed_message, crate::proofs::Tables::sealed_tag, crate::proofs::Tables::sealed_keystream))]
+    fn sealed_row(self, j: usize) -> Label
+        requires { (self.message ≤ 1048576) × (j < length (labels self.suite 0 self.message)) }
+        ensures { slice_get (labels self.suite 0 self.message) j ≡ Some result }
+    {
+        let m = blocks(self.message);
+        if j < m {
+            return block_label(Kind::Message, self.message, j);
+        }
+        if j == m {
+            return self.tag_label();
+        }
+        block_label(Kind::Keystream, self.message, j - m - 1)
+    }
+
+    // Row j of an opening without data: keystream, message, tag.
+    #[tactic(auto, using(crate::proofs::Tables::opened_keystream, crate::proofs::Tables::opened_message, crate::proofs::Tables::opened_tag, crate::proofs::Tables::small))]
+    fn opened_row(self, j: usize) -> Label
+        requires { (self.message ≤ 1048576) × (j < length (labels self.suite 0 self.message)) }
+        ensures { slice_get (opening_labels self.suite 0 self.message) j ≡ Some result }
+    {
+        let k = self.keystream_blocks();
+        if j < k {
+            return block_label(Kind::Keystream, self.message, j);
+        }
+        let n = j - k;
+        if n < blocks(self.message) {
+            return block_label(Kind::Message, self.message, n);
+        }
+        self.tag_label()
+    }
+
+    // Row j of a table without data.
+    fn later_row(self, direction: Direction, j: usize) -> Label
+        requires { (self.message ≤ 1048576) × (j < length (labels self.suite 0 self.message)) }
+        ensures { slice_get (labels_of direction self.suite 0 self.message) j ≡ Some result }
+    {
+        match direction {
+            Direction::Sealing => self.sealed_row(j),
+            Direction::Opening => self.opened_row(j),
+        }
+    }
+
+    // Row i of a table, counted from zero: the data's rows, and then those of a text without data.
+    #[tactic(auto, using(crate::proofs::Tables::row_none, crate::proofs::Tables::row_data_lem, crate::proofs::Tables::row_later))]
+    pub fn row(self, direction: Direction, i: usize) -> Option<Label>
+        ensures label { result ≡ slice_get (table_of direction self.suite self.ad self.message) i }
+        ensures there_if_counted { i < length (risk_table self.suite self.ad self.message) → IsSome result }
+    {
+        if self.rows() <= i {
+            return None;
+        }
+        let a = blocks(self.ad);
+        if i < a {
+            return Some(block_label(Kind::Data, self.ad, i));
+        }
+        let j = i - a;
+        Some(self.later_row(direction, j))
+    }
 }

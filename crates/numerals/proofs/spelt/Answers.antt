@@ -1,26 +1,22 @@
--- `numerals::spelt` meets its contract: after i turns the value is what i digits spell, or one above the limit.
+-- `numerals::spelt` meets its contract: the value is what the digits read so far spell, or one above the limit.
 -- Assumes nothing.
-use mathlib.Core.Logic.{inl, inr}
-use native.Mathlib.Omega.{arith}
-use borrow.Author.Rules.{rules}
-use Rattle.numerals.proofs.Spelling.{reading_start, reading_turn, no_digit, reading_end}
+use Rattle.std.proofs.Common.{arith, rules}
+use Rattle.std.proofs.lemmas.Bool.Decides.{nat_tests}
+use Rattle.numerals.proofs.Spelling.{reading_turn, no_digit, reading_end, no_bytes}
 use Rattle.numerals.proofs.spelt.Goals as goal
 
-pub loop-i-init : goal.loop-i-init
-loop-i-init c = (search rules, reading_start _)
+pub returns-then-is_empty : goal.returns-then-is_empty
+returns-then-is_empty c = no_bytes _ (grind (arith, nat_tests))
 
-pub returns-then-c-lt48 : goal.returns-then-c-lt48
-returns-then-c-lt48 c = no_digit _ _ _ c.loop-i.invariant.1 (omega arith) (inl c.if-c-lt48.true)
+pub returns-then-not-is_ascii_digit : goal.returns-then-not-is_ascii_digit
+returns-then-not-is_ascii_digit c =
+    no_digit _ _ _ c.loop-byte.invariant (search rules) c.if-not-is_ascii_digit.ensures.cases
 
-pub returns-then-c-gt57 : goal.returns-then-c-gt57
-returns-then-c-gt57 c = no_digit _ _ _ c.loop-i.invariant.1 (omega arith) (inr c.if-c-gt57.true)
-
-pub loop-i-preserved : goal.loop-i-preserved
-loop-i-preserved c = (
-  search rules,
-  rw c.least-value.ensures
-      (reading_turn _ _ _ c.loop-i.invariant.1 (omega arith) c.if-c-lt48.false c.if-c-gt57.false),
-)
+pub loop-byte-preserved : goal.loop-byte-preserved
+loop-byte-preserved c =
+    let d = c.if-not-is_ascii_digit.ensures.cases in
+    rw (c.min-value.ensures, c.from.ensures)
+    (reading_turn _ _ _ c.loop-byte.invariant (search rules) (omega (arith, d)) (omega (arith, d)))
 
 pub returns : goal.returns
-returns c = reading_end _ _ _ c.loop-i.invariant.1 (omega arith)
+returns c = reading_end _ _ _ c.loop-byte.invariant (grind (arith, nat_tests)) (search rules)
