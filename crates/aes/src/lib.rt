@@ -11,7 +11,7 @@ ghost use Rattle.aes.specs.Round.{byte_at, shift_rows, inv_shift_rows, mix_byte,
 use std::array;
 
 // Each byte replaced by its entry of a table: SubBytes by the S-box, InvSubBytes by the inverse one.
-// `block.map` was tried, here and for the other blocks of this crate: an enciphering took six times the instructions, a deciphering ten times.
+// `block.map` was tried, here and below: an enciphering took six times the instructions, a deciphering ten times.
 fn substitute(entries: &[u8; 256], block: [u8; 16]) -> [u8; 16]
     ensures { result ≡ each_byte (λ x. get_or entries.now x 0) block }
 {

@@ -40,9 +40,9 @@ pub fn encipher(k: Subkeys, tweak: [u8; 16], block: [u8; 16], count: Count) -> C
 {
     let sbox = field::sbox::entries();
     let keys = tweakey::key_schedule(k, tweak);
-    let rounds = k.rounds;
     let mut state = octets::xor_block(block, octets::read_block(&keys, 0));
-    for i in 0..rounds {
+    // The state goes through a `next`: an array right from a call into a local that is read again has no generated proof.
+    for i in 0..k.rounds {
         let key = octets::read_block(&keys, 16 * (i + 1));
         let next = aes::cipher_round(&sbox, state, key);
         state = next;
@@ -60,13 +60,9 @@ pub fn decipher(k: Subkeys, tweak: [u8; 16], block: [u8; 16], count: Count) -> C
 {
     let inv_sbox = field::inv_sbox::entries();
     let keys = tweakey::key_schedule(k, tweak);
-    let mut i = k.rounds;
-    let mut state = aes::inv_mix_columns(octets::xor_block(
-        block,
-        octets::read_block(&keys, 16 * i),
-    ));
-    while 0 < i {
-        i -= 1;
+    let last = octets::read_block(&keys, 16 * k.rounds);
+    let mut state = aes::inv_mix_columns(octets::xor_block(block, last));
+    for i in (0..k.rounds).rev() {
         let key = octets::read_block(&keys, 16 * i);
         let mixed = aes::inv_mix_columns(key);
         let next = aes::equiv_inv_cipher_round(&inv_sbox, state, mixed);

@@ -1,5 +1,6 @@
 // FIPS 197, figure 14, the inverse S-box. Whoever needs the table takes it into a local and lends it down: a constant array is laid on the stack anew
 // in each function that indexes it.
+// A file and an `entries` for each table, and not one with a parameter: each table has a rule of its own.
 ghost use Rattle.std.specs.Prelude.{◌≡◌};
 ghost use Rattle.octets.specs.Octets.{table};
 ghost use Rattle.field.specs.Substitution.{inv_sub};

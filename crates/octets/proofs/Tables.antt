@@ -153,7 +153,7 @@ table_tested f n l e t = is_table f n l e (agreed (λ k. get_or l k 0) f n t)
 -- ---- what `array::from_fn` makes, by a closure whose calls leave it as it was
 
 module _ {F : Type 0} (R : ℕ → ℕ → Type 0) (g : Mut F (ℕ × Unit {0}) ℕ) (s : F) (l : List ℕ)
-         (call : (i : ℕ) (t : F) (y : ℕ) → Called g s (i, tt) y t → R i y × (t ≡ s)) where
+    (call : (i : ℕ) (t : F) (y : ℕ) → Called g s (i, tt) y t → R i y × (t ≡ s)) where
   made_from : (i n : ℕ) (t : F) → t ≡ s → IsFromFnResultFrom g t l i n → (k : ℕ) → k < n → R (i + k) (get_or l (i + k) 0)
   made_from i zero t e r k h = absurd (not-suc-le-zero h)
   made_from i (suc n) t e r zero h =

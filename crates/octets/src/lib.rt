@@ -25,6 +25,7 @@ pub fn write_block(s: &mut [u8], at: usize, block: [u8; 16])
     s[at..at + 16].copy_from_slice(&block);
 }
 
+// By `from_fn`, as every block here: `map` was tried, and enciphering took six times the instructions.
 pub fn xor_block(a: [u8; 16], b: [u8; 16]) -> [u8; 16]
     ensures { result ≡ a ⊕ b }
 {
@@ -36,6 +37,7 @@ pub fn xor_into(part: &mut [u8], block: [u8; 16])
     requires { length part.old ≤ 16 }
     ensures { part.new ≡ part.old ⊕ block }
 {
+    // By the index: after a `zip` with `iter_mut` a proof knows no byte of the part.
     for (i, x) in part.iter_mut().enumerate() {
         *x ^= block[i];
     }

@@ -14,7 +14,7 @@ use borrow.Author.Tests.{eq-eqb, ne_eqb}
 use Rattle.octets.specs.Octets.{Bytes, Block, pick, ◌⊕◌, table, each_byte, zero_block, block_at}
 use Rattle.octets.proofs.Xor.{⊕_block, ⊕-length, zero_⊕}
 use Rattle.octets.proofs.Parts.{part_length}
-use Rattle.octets.proofs.Tables.{bounded, agreed, table_block, each_block}
+use Rattle.octets.proofs.Tables.{bounded, agreed, is_table, table_block, each_block}
 use Rattle.tweakey.specs.Tweakey.{places, h, lfsr2, lfsr3, repeated, tk2, tk3, tweak_after, constant_block, key_part, rounds_of, joined, flat, expanded, round_key}
 use Rattle.tweakey.specs.declared.Subkeys.{Subkeys}
 
@@ -38,9 +38,18 @@ lfsr3_lt = bounded lfsr3 256 256 tt
 
 -- ---- blocks stay blocks
 
+-- a block that has f's value at each place
+pub replaced : (f : ℕ → ℕ) (s t : List ℕ) → length t ≡ 16 → ((i : ℕ) → i < 16 → get_or t i 0 ≡ f (get_or s i 0)) → t ≡ each_byte f s
+unfolding each_byte
+replaced f s t e h = is_table (λ i. f (get_or s i 0)) 16 t e h
+
 pub place_below : (i : ℕ) → i < 16 → get_or places i 0 < 16
 unfolding places
 place_below = bounded (λ i. get_or places i 0) 16 16 tt
+
+-- the same of a list that is known to be the places
+pub listed_place_below : (perm : List ℕ) (i : ℕ) → perm ≡ places → i < 16 → get_or perm i 0 < 16
+listed_place_below perm i e h = rw e (place_below i h)
 
 pub h_block : {s : List ℕ} → Bytes s → Block (h s)
 unfolding h

@@ -2,11 +2,14 @@
 
 #![tactic(auto)]
 
-ghost use Rattle.std.specs.Prelude.{◌≡◌, ◌⊎◌, ◌+◌, ◌≤◌, ◌<◌, length};
-ghost use Rattle.octets.specs.Octets.{◌⊕◌, table, each_byte};
+ghost use Rattle.std.specs.Prelude.{◌≡◌, ◌⊎◌, ℕ, ◌+◌, ◌≤◌, ◌<◌, length, slice_index};
+ghost use Rattle.octets.specs.Octets.{◌⊕◌, table};
 ghost use Rattle.tweakey.specs.Tweakey.{places, h, lfsr2, lfsr3, tk2, tk3, round_constant, constant_block, flat, expanded, round_key};
 
+use std::array;
+
 // The expanded key: the key parts of all round keys, flat (240 or 272 bytes, the rest zero), and the number of rounds.
+// Flat, as `struct deoxys_subkeys` of the C interface has it, and C may hand back any count: its bound is a `requires`, and no ghost field.
 #[repr(C)]
 #[derive(Clone, Copy, PartialEq, Eq)]
 pub struct Subkeys {
@@ -26,11 +29,7 @@ fn h_substitution(perm: &[u8; 16], tk: [u8; 16]) -> [u8; 16]
     requires { perm.now ≡ places }
     ensures { result ≡ h tk }
 {
-    let mut out = [0u8; 16];
-    for i in 0..16 {
-        out[i] = tk[perm[i] as usize];
-    }
-    out
+    array::from_fn(|i| tk[usize::from(perm[i])])
 }
 
 fn lfsr2_byte(x: u8) -> u8
@@ -45,24 +44,12 @@ fn lfsr3_byte(x: u8) -> u8
     (x >> 1) | ((x ^ (x >> 6)) << 7)
 }
 
-fn lfsr2(tk: [u8; 16]) -> [u8; 16]
-    ensures { result ≡ each_byte lfsr2 tk }
+// Each byte replaced by what the rule gives for it.
+fn each_byte<F: Fn(u8) -> u8>(rule: F, tk: [u8; 16]) -> [u8; 16]
+    requires { F.IsAlwaysCallable rule }
+    ensures { (i : ℕ) → i < 16 → F.post rule (slice_index tk i) (slice_index result i) }
 {
-    let mut out = [0u8; 16];
-    for i in 0..16 {
-        out[i] = lfsr2_byte(tk[i]);
-    }
-    out
-}
-
-fn lfsr3(tk: [u8; 16]) -> [u8; 16]
-    ensures { result ≡ each_byte lfsr3 tk }
-{
-    let mut out = [0u8; 16];
-    for i in 0..16 {
-        out[i] = lfsr3_byte(tk[i]);
-    }
-    out
+    array::from_fn(|i| rule(tk[i]))
 }
 
 // Constant block i; `constants` is RCON, lent.
@@ -84,12 +71,14 @@ fn expand(third: [u8; 16], second: [u8; 16], rounds: usize) -> Subkeys
     let mut bytes = [0u8; 272];
     let mut t3 = third;
     let mut t2 = second;
+    // By the index: after `chunks_exact_mut` a proof knows no byte of what was written. An array goes through a `next`: right from a
+    // call into a local that is read again, it has no generated proof.
     for i in 0..rounds + 1 {
         let part = octets::xor_block(octets::xor_block(t3, t2), constant_block(&constants, i));
         octets::write_block(&mut bytes, 16 * i, part);
-        let next3 = lfsr3(h_substitution(&perm, t3));
+        let next3 = each_byte(lfsr3_byte, h_substitution(&perm, t3));
         t3 = next3;
-        let next2 = lfsr2(h_substitution(&perm, t2));
+        let next2 = each_byte(lfsr2_byte, h_substitution(&perm, t2));
         t2 = next2;
     }
     Subkeys { bytes, rounds }
@@ -112,10 +101,10 @@ pub fn key_schedule(k: Subkeys, tweak: [u8; 16]) -> [u8; 272]
     ensures { result ≡ flat (round_key k tweak) (k.rounds + 1) }
 {
     let perm = H_PERM;
-    let rounds = k.rounds;
     let mut keys = [0u8; 272];
     let mut t = tweak;
-    for i in 0..rounds + 1 {
+    // By the index and a `next`, as in `expand`.
+    for i in 0..k.rounds + 1 {
         let key = octets::xor_block(octets::read_block(&k.bytes, 16 * i), t);
         octets::write_block(&mut keys, 16 * i, key);
         let next = h_substitution(&perm, t);

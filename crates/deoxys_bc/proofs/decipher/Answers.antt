@@ -1,7 +1,7 @@
 -- `deoxys_bc::decipher` meets its contract: what the equivalent inverse cipher has still to do, from where the loop stands, is
 -- what it had at first.
 -- Assumes nothing.
-use mathlib.Core.Path.{◌≡◌, refl}
+use mathlib.Core.Path.{◌≡◌}
 use Prim.Native.Nat.{suc, ◌-◌, ◌≤◌}
 use native.Mathlib.Omega.{arith}
 use lib.ListN.{length}
@@ -11,20 +11,15 @@ use Rattle.octets.proofs.Tables.{byte}
 use Rattle.deoxys_bc.proofs.Rounds.{KeyParts, flat-decipher}
 use Rattle.deoxys_bc.proofs.decipher.Goals as goal
 
-pub loop-i-init : goal.loop-i-init
-loop-i-init c = (refl, search rules)
-
 pub equiv_inv_cipher_round-next-requires : goal.equiv_inv_cipher_round-next-requires
 equiv_inv_cipher_round-next-requires c = c.entries-inv_sbox.ensures
 
 pub loop-i-preserved : goal.loop-i-preserved
 loop-i-preserved c =
     let l = c.loop-i in
-    let e : l.i ≡ suc (l.i - 1) = omega arith in (
-      simp (c.equiv_inv_cipher_round-next.ensures, c.inv_mix_columns-mixed.ensures, c.read_block-key.ensures)
-          (rw e at l.invariant.0),
-      omega arith,
-    )
+    let e : l.i ≡ suc (l.i - 1) = omega arith in
+    simp (c.equiv_inv_cipher_round-next.ensures, c.inv_mix_columns-mixed.ensures, c.read_block-key.ensures)
+    (rw e at l.invariant)
 
 pub returns : goal.returns
 returns c =
@@ -39,9 +34,9 @@ returns c =
       e,
       c.inv_mix_columns-state.ensures,
       c.xor_block.ensures,
-      c.read_block.ensures,
+      c.read_block-last.ensures,
       c.key_schedule-keys.ensures,
       flat-decipher parts tweak small fits block,
     )
-    at c.loop-i.invariant.0 in
+    at c.loop-i.invariant in
     rw (c.raised.ensures, c.mix_columns.ensures, done)

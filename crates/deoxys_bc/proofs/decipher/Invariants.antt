@@ -2,12 +2,8 @@
 -- what it had at first.
 -- Assumes nothing.
 use mathlib.Core.Path.{◌≡◌}
-use Prim.Native.Nat.{◌≤◌}
 use Rattle.deoxys_bc.proofs.Rounds.{unran}
 use Rattle.deoxys_bc.proofs.decipher.Given as goal
 
 abbrev pub invariant-loop-i : goal.invariant-loop-i
-invariant-loop-i l = (unran l.keys l.state l.i ≡ unran l.keys l.initial.state l.initial.i) × (l.i ≤ l.initial.i)
-
-abbrev pub decreases-loop-i : goal.decreases-loop-i
-decreases-loop-i l = l.i
+invariant-loop-i l = unran l.keys l.state l.i ≡ unran l.keys l.initial.state l.initial.i

@@ -12,16 +12,13 @@ use Rattle.deoxys_bc.proofs.Rounds.{KeyParts, flat-encipher}
 use Rattle.deoxys_bc.proofs.encipher.Goals as goal
 
 pub loop-i-init : goal.loop-i-init
-loop-i-init c = (refl, search rules)
+loop-i-init c = refl
 
 pub cipher_round-next-requires : goal.cipher_round-next-requires
 cipher_round-next-requires c = c.entries-sbox.ensures
 
 pub loop-i-preserved : goal.loop-i-preserved
-loop-i-preserved c = (
-  c.cipher_round-next.ensures ∙ rw (c.loop-i.invariant.0, c.read_block-key.ensures, add-one),
-  omega arith,
-)
+loop-i-preserved c = c.cipher_round-next.ensures ∙ rw (c.loop-i.invariant, c.read_block-key.ensures, add-one)
 
 pub returns : goal.returns
 returns c =
@@ -33,7 +30,7 @@ returns c =
     let e : c.loop-i.i ≡ a.k.rounds = omega arith in
     rw (
       c.raised.ensures,
-      c.loop-i.invariant.0,
+      c.loop-i.invariant,
       c.xor_block-state.ensures,
       c.read_block.ensures,
       c.key_schedule-keys.ensures,

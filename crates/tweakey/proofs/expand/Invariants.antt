@@ -2,14 +2,9 @@
 -- steps; here the round constants are tested, once.
 -- Assumes nothing.
 use mathlib.Core.Path.{◌≡◌}
-use Prim.Native.Nat.{◌+◌, ◌-◌, ◌≤◌}
-use lib.ListN.{length}
 use Rattle.octets.specs.Octets.{◌⊕◌}
 use Rattle.tweakey.specs.Tweakey.{tk3, tk2, constant_block, flat}
 use Rattle.tweakey.proofs.expand.Given as goal
 
 abbrev pub invariant-loop-i : goal.invariant-loop-i
-invariant-loop-i l = (l.bytes ≡ flat (λ j. tk3 j l.initial.t3 ⊕ tk2 j l.initial.t2 ⊕ constant_block j) l.i) × (l.t3 ≡ tk3 l.i l.initial.t3) × (l.t2 ≡ tk2 l.i l.initial.t2) × (l.i ≤ l.rounds + 1) × (length l.bytes ≡ 272)
-
-abbrev pub decreases-loop-i : goal.decreases-loop-i
-decreases-loop-i l = l.rounds + 1 - l.i
+invariant-loop-i l = (l.bytes ≡ flat (λ j. tk3 j l.initial.t3 ⊕ tk2 j l.initial.t2 ⊕ constant_block j) l.i) × (l.t3 ≡ tk3 l.i l.initial.t3) × (l.t2 ≡ tk2 l.i l.initial.t2)

@@ -1,26 +1,16 @@
--- `tweakey::h_substitution` meets its contract: the loop fills the block; the lent places are below 16.
+-- `tweakey::h_substitution` meets its contract: what the closure gives at each place is the byte at the lent place, which is below 16.
 -- Assumes nothing.
-use mathlib.Core.Path.{refl}
-use native.Mathlib.Nat.{lt_of_lt_of_le}
-use lib.Dec.{lit≤}
-use borrow.Author.Rules.{rules}
-use Rattle.octets.proofs.Tables.{filled_none, filled_more, filled_all}
+use Rattle.std.proofs.Common.{rules, ◌∙◌, get_or}
+use Rattle.std.proofs.iter.Serving.{serving}
+use Rattle.octets.proofs.Tables.{made_table}
 use Rattle.tweakey.specs.Tweakey.{h}
-use Rattle.tweakey.proofs.Tweakeys.{place_below}
+use Rattle.tweakey.proofs.Tweakeys.{listed_place_below}
 use Rattle.tweakey.proofs.h_substitution.Goals as goal
 
-pub loop-i-init : goal.loop-i-init
-loop-i-init c = filled_none refl
-
-pub overflow_cast-out : goal.overflow_cast-out
-overflow_cast-out c = record { fits = rw c.requires (lt_of_lt_of_le (place_below c.loop-i.i (search rules)) (lit≤ tt)) }
-
-pub bounds-tk-perm : goal.bounds-tk-perm
-bounds-tk-perm c = rw c.requires (place_below c.loop-i.i (search rules))
-
-pub loop-i-preserved : goal.loop-i-preserved
-loop-i-preserved c = filled_more _ c.loop-i.invariant (search rules) (rw c.requires)
+pub from_fn-requires : goal.from_fn-requires
+from_fn-requires c = (search rules, grind (serving, listed_place_below))
 
 pub returns : goal.returns
 unfolding h
-returns c = filled_all c.loop-i.invariant (search rules)
+returns c =
+    made_table (λ i. get_or c.args.tk (get_or c.args.perm.now i 0) 0) _ _ _ (λ i t y k. search rules) 16 c.from_fn.ensures.items ∙ rw c.requires

@@ -13,7 +13,7 @@ use Rattle.tweakey.proofs.key_schedule.Goals as goal
 
 pub loop-i-init : goal.loop-i-init
 unfolding tweak_after
-loop-i-init c = (flat-none _, refl, search rules, refl)
+loop-i-init c = (flat-none _, refl)
 
 pub h_substitution-next-requires : goal.h_substitution-next-requires
 unfolding places
@@ -26,11 +26,9 @@ loop-i-preserved c =
     let a = c.args in
     let tweak : Block a.tweak = record { size = search rules; bytes = record { at = λ i. byte (search rules) } } in (
       c.write_block.ensures
-          ∙ flat_turn _ (λ j b. round_key-length a.k j tweak (search rules)) l.i l.keys c.xor_block-key.result (search rules) l.invariant.0
+          ∙ flat_turn _ (λ j b. round_key-length a.k j tweak (search rules)) l.i l.keys c.xor_block-key.result (omega arith) l.invariant.0
           (rw (c.xor_block-key.ensures, c.read_block.ensures, l.invariant.1)),
       rw (c.h_substitution-next.ensures, l.invariant.1) (tweak_step l.i _),
-      omega arith,
-      c.write_block.auto.s ∙ l.invariant.3,
     )
 
 pub returns : goal.returns

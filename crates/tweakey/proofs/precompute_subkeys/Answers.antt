@@ -18,7 +18,7 @@ pub returns-then-key-eq16 : goal.returns-then-key-eq16
 returns-then-key-eq16 c =
     let whole = take_all 16 c.args.key.now (search rules) in
     let key : Block c.args.key.now =
-    record { size = c.if-key-eq16.true; bytes = record { at = λ i. byte (c.shared_slice_known-1.given i) } } in
+    record { size = c.if-key-eq16.true; bytes = record { at = λ i. byte (search rules) } } in
     c.expand.ensures ∙ rw (c.read_block.ensures, whole) (expanded_16 key)
 
 pub read_block-requires-2 : goal.read_block-requires-2
