@@ -36,9 +36,9 @@ fn protect(suite: u8, key: &[u8], nonce: &[u8], ad: &[u8], buffer: &mut [u8]) ->
 {
     let k = tweakey::precompute_subkeys(key);
     if suite <= 2 {
-        return deoxys_i::seal(k, nonce, ad, buffer);
+        return deoxys_i::seal(k, nonce.try_into().unwrap(), ad, buffer);
     }
-    deoxys_ii::seal(k, nonce, ad, buffer)
+    deoxys_ii::seal(k, nonce.try_into().unwrap(), ad, buffer)
 }
 
 // Seals the buffer in place, or refuses and leaves it as it was.
@@ -76,9 +76,9 @@ fn recover(
 {
     let k = tweakey::precompute_subkeys(key);
     if suite <= 2 {
-        return deoxys_i::open(k, nonce, ad, buffer);
+        return deoxys_i::open(k, nonce.try_into().unwrap(), ad, buffer);
     }
-    deoxys_ii::open(k, nonce, ad, buffer, tag)
+    deoxys_ii::open(k, nonce.try_into().unwrap(), ad, buffer, tag)
 }
 
 // Opens the buffer in place. A wrong tag leaves zeros, every other refusal the buffer as it was.

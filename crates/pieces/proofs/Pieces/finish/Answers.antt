@@ -2,7 +2,6 @@
 -- Assumes nothing.
 use mathlib.Core.Path.{sym, ◌∙◌}
 use native.Mathlib.Omega.{arith}
-use borrow.Author.Rules.{rules}
 use Rattle.octets.specs.Octets.{zero_block}
 use Rattle.pieces.specs.ByPieces.{finished}
 use Rattle.pieces.proofs.Refusals.{few_rounds, stands}
@@ -16,7 +15,7 @@ returns-then-number-ne0 c = rw c.state_refusal-number.ensures (finish_refused _ 
 pub tag-tagged-requires : goal.tag-tagged-requires
 tag-tagged-requires c =
     let g = stands _ _ (sym c.state_refusal-number.ensures ∙ c.if-number-ne0.false) in
-    (few_rounds g, search rules, omega (arith, g.within.few_bytes), omega (arith, g.within.few_rows))
+    (few_rounds g, omega (arith, g.within.few_bytes), omega (arith, g.within.few_rows))
 
 pub returns : goal.returns
 unfolding finished

@@ -1,7 +1,6 @@
 -- `pieces::Pieces::took` meets its contract: what refuses nothing keeps every sum small (`stands`, `take_passed`).
 -- Assumes nothing.
 use native.Mathlib.Omega.{arith}
-use borrow.Author.Rules.{rules}
 use Rattle.pieces.proofs.Refusals.{few_rounds, stands, take_passed}
 use Rattle.pieces.proofs.Answers.{took_is, text_is}
 use Rattle.pieces.proofs.Pieces.took.Goals as goal
@@ -10,7 +9,7 @@ pub crypt_message-count-requires : goal.crypt_message-count-requires
 crypt_message-count-requires c =
     let t = take_passed _ _ c.requires in
     let g = stands _ _ t.0 in
-    (few_rounds g, search rules, omega (arith, g.within.few_bytes, t.1), omega (arith, g.within.few_rows, t.1))
+    (few_rounds g, omega (arith, g.within.few_bytes, t.1), omega (arith, g.within.few_rows, t.1))
 
 pub overflow_add-self : goal.overflow_add-self
 overflow_add-self c =
