@@ -9,7 +9,7 @@ use tweakey::Subkeys;
 
 // The block cipher calls made so far.
 #[repr(C)]
-#[derive(Clone, Copy)]
+#[derive(Clone, Copy, PartialEq, Eq)]
 pub struct Count {
     pub rows: usize,
 }

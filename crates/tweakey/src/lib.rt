@@ -8,7 +8,7 @@ ghost use Rattle.tweakey.specs.Tweakey.{places, h, lfsr2, lfsr3, tk2, tk3, round
 
 // The expanded key: the key parts of all round keys, flat (240 or 272 bytes, the rest zero), and the number of rounds.
 #[repr(C)]
-#[derive(Clone, Copy)]
+#[derive(Clone, Copy, PartialEq, Eq)]
 pub struct Subkeys {
     pub bytes: [u8; 272],
     pub rounds: usize,
