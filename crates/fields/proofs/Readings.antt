@@ -4,17 +4,8 @@ use mathlib.Core.Path.{◌≡◌, refl, sym}
 use mathlib.Core.Bool.{Bool, true, false}
 use mathlib.Core.List.{List, [], ◌∷◌, ◌++◌}
 use Prim.Native.Nat.{ℕ}
-use borrow.Author.Tests.{eq-eqb, ne_eqb}
 use Rattle.octets.specs.Octets.{pick}
 use Rattle.fields.specs.Fields.{Rule, Read, refused, got, and_then, take_field, take_fields}
-use Rattle.fields.specs.Answers.{answered}
-
-module _ {A : Type 0} (number : ℕ) (value : A) (left : List ℕ) where
-  pub answered_got : number ≡ 0 → answered number value left ≡ got value left
-  answered_got e = simp (eq-eqb _ _ e)
-
-  pub answered-refused : (number ≡ 0 → ⊥) → answered number value left ≡ refused number
-  answered-refused h = simp (ne_eqb _ _ h)
 
 -- a test in front of a reading stays in front
 pub then_pick : {A B : Type 0} (b : Bool) (x : Read A) (y : Read B) (n : ℕ) (f : A → List ℕ → Read B)

@@ -3,108 +3,82 @@
 #![tactic(auto)]
 
 ghost use Rattle.std.specs.Prelude.{◌≡◌, ◌+◌, ◌≤◌, ◌<◌, eqb, length, get_or};
-ghost use Rattle.octets.specs.Octets.{pick};
 ghost use Rattle.fields.specs.Fields.{between, number2, field};
-ghost use Rattle.fields.specs.Answers.{laid_at, FieldRead};
+ghost use Rattle.fields.specs.Answers.{number_of, laid_at, FieldRead, Tested};
 
-pub const MISSING: u8 = 10;
+// What refuses a field, in the order of the checks; missing bytes come first and last but one.
+#[derive(Clone, Copy, Debug, PartialEq, Eq)]
+pub enum Refused {
+    Missing,
+    WrongTag,
+    WrongLength,
+    OutOfRange,
+}
 
-const WRONG_TAG: u8 = 11;
-
-pub const WRONG_LENGTH: u8 = 12;
-
-const OUT_OF_RANGE: u8 = 13;
+impl Refused {
+    // The number of document 02.
+    pub fn number(self) -> u8
+        ensures { result ≡ number_of self }
+    {
+        match self {
+            Refused::Missing => 10,
+            Refused::WrongTag => 11,
+            Refused::WrongLength => 12,
+            Refused::OutOfRange => 13,
+        }
+    }
+}
 
 // A field's tag and length.
 const HEAD_BYTES: usize = 3;
 
-// A field that was read: a number, and how many bytes it has after its head.
-#[derive(Clone, Copy)]
-pub struct Part {
-    pub number: u8,
-    pub bytes: usize,
-}
-
-pub fn wide(x: u8) -> usize
-    ensures { (result ≡ x) × (result < 256) }
-{
-    let number = x as usize;
-    number
-}
-
 // The number of two bytes, the higher first.
-pub fn pair(s: &[u8], at: usize) -> usize
+pub fn pair(s: &[u8], at: usize) -> u16
     requires { at + 1 < length s.now }
-    ensures value { result ≡ number2 (get_or s.now at 0) (get_or s.now (at + 1) 0) }
-    ensures upper_bound { result < 65536 }
+    ensures { result ≡ number2 (get_or s.now at 0) (get_or s.now (at + 1) 0) }
 {
-    wide(s[at]) * 256 + wide(s[at + 1])
+    u16::from_be_bytes([s[at], s[at + 1]])
 }
 
-// A number that refuses a value outside its bounds.
-fn outside(value: usize, least: usize, greatest: usize, number: u8) -> u8
-    ensures { result ≡ pick (between least greatest value) 0 number }
+// Refuses a value outside its bounds.
+fn outside(value: usize, least: usize, greatest: usize, refused: Refused) -> Result<(), Refused>
+    ensures { Tested (between least greatest value) refused result }
 {
-    if value < least {
-        return number;
+    if value < least || greatest < value {
+        return Err(refused);
     }
-    if greatest < value {
-        return number;
-    }
-    0
+    Ok(())
 }
 
 // A suite's or a row's number: both count from one.
-pub fn range_refusal(value: usize, greatest: usize) -> u8
-    ensures { result ≡ pick (between 1 greatest value) 0 13 }
+pub fn range_refusal(value: usize, greatest: usize) -> Result<(), Refused>
+    ensures { Tested (between 1 greatest value) Refused.OutOfRange result }
 {
-    outside(value, 1, greatest, OUT_OF_RANGE)
+    outside(value, 1, greatest, Refused::OutOfRange)
 }
 
-fn tag_refusal(found: u8, tag: u8) -> u8
-    ensures { result ≡ pick (eqb found tag) 0 11 }
+fn tag_refusal(found: u8, tag: u8) -> Result<(), Refused>
+    ensures { Tested (eqb found tag) Refused.WrongTag result }
 {
     if found != tag {
-        return WRONG_TAG;
+        return Err(Refused::WrongTag);
     }
-    0
+    Ok(())
 }
 
-// The first of three numbers that refuses.
-fn first_of(number: u8, next: u8, last: u8) -> u8
-    ensures { result ≡ pick (eqb number 0) (pick (eqb next 0) last next) number }
-{
-    if number != 0 {
-        return number;
-    }
-    if next != 0 {
-        return next;
-    }
-    last
-}
-
-fn refused(number: u8) -> Part
-    ensures { result ≡ record { number = number; bytes = 0 } }
-{
-    Part { number, bytes: 0 }
-}
-
-// The field that the bytes left begin with, all but its range. The order of the checks is that of `first_of`.
-pub fn read_field(left: &[u8], tag: u8, least: usize, greatest: usize) -> Part
+// The field that the bytes left begin with, all but its range: how many bytes it has after its head.
+#[tactic(auto, using(crate::proofs::OneField::in_order))]
+pub fn read_field(left: &[u8], tag: u8, least: usize, greatest: usize) -> Result<usize, Refused>
     ensures { FieldRead tag least greatest left.now result }
 {
     if left.len() < HEAD_BYTES {
-        return refused(MISSING);
+        return Err(Refused::Missing);
     }
-    let bytes = pair(left, 1);
-    let other_tag = tag_refusal(left[0], tag);
-    let wrong_length = outside(bytes, least, greatest, WRONG_LENGTH);
-    let cut_off = outside(bytes, 0, left.len() - HEAD_BYTES, MISSING);
-    let number = first_of(other_tag, wrong_length, cut_off);
-    if number != 0 {
-        return refused(number);
-    }
-    Part { number: 0, bytes }
+    let bytes = usize::from(pair(left, 1));
+    tag_refusal(left[0], tag)?;
+    outside(bytes, least, greatest, Refused::WrongLength)?;
+    outside(bytes, 0, left.len() - HEAD_BYTES, Refused::Missing)?;
+    Ok(bytes)
 }
 
 // Bytes laid at a place; where the next ones go.
@@ -113,10 +87,9 @@ pub fn put(destination: &mut [u8], at: usize, body: &[u8]) -> usize
     ensures value { result ≡ at + length body.now }
     ensures destination_after { destination.new ≡ laid_at at body.now destination.old }
 {
-    for i in 0..body.len() {
-        destination[at + i] = body[i];
-    }
-    at + body.len()
+    let next = at + body.len();
+    destination[at..next].copy_from_slice(body);
+    next
 }
 
 // A field laid at a place; where the next one goes.
@@ -126,8 +99,7 @@ pub fn put_field(destination: &mut [u8], at: usize, tag: u8, body: &[u8]) -> usi
     ensures value { result ≡ at + 3 + length body.now }
     ensures destination_after { destination.new ≡ laid_at at (field tag body.now) destination.old }
 {
-    let n = body.len();
-    let head = [tag, (n / 256) as u8, (n % 256) as u8];
-    let at = put(destination, at, &head);
+    let [high, low] = (body.len() as u16).to_be_bytes();
+    let at = put(destination, at, &[tag, high, low]);
     put(destination, at, body)
 }

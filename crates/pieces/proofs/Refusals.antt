@@ -31,25 +31,13 @@ module _ (suite key nonce ad : ℕ) where
 -- ---- a state's bounds
 
 module _ (p : Pieces) where
-  pub many_bytes : 1048576 < p.total → false ≡ sound p
-  many_bytes h = simp (lt-leb _ _ h)
-
   module _ (h₀ : p.total ≤ 1048576) where
-    pub many_rows : 131072 < p.count.rows → false ≡ sound p
-    many_rows h = simp (le-leb _ _ h₀, lt-leb _ _ h)
-
     module _ (h₁ : p.count.rows ≤ 131072) where
       pub of_a_short_key : p.keys.rounds ≡ 14 → true ≡ sound p
       of_a_short_key e = simp (le-leb _ _ h₀, le-leb _ _ h₁, eq-eqb _ _ e)
 
       pub of_a_long_key : p.keys.rounds ≡ 16 → true ≡ sound p
       of_a_long_key e = simp (le-leb _ _ h₀, le-leb _ _ h₁, ne_eqb p.keys.rounds 14 (λ x. omega (arith, e, x)), eq-eqb _ _ e)
-
-      pub of_no_key : (p.keys.rounds ≡ 14 → ⊥) → (p.keys.rounds ≡ 16 → ⊥) → false ≡ sound p
-      of_no_key h h' = simp (le-leb _ _ h₀, le-leb _ _ h₁, ne_eqb _ _ h, ne_eqb _ _ h')
-
--- one of these at each return of `is_sound`
-pub ruleset soundness = (many_bytes, many_rows, of_a_short_key, of_a_long_key, of_no_key)
 
 pub record Bounds (p : Pieces) : Type 0 where
   pub few_bytes : p.total ≤ 1048576

@@ -1,1 +1,2 @@
 pub mod ByPieces
+pub mod Refusing

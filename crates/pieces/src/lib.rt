@@ -8,11 +8,13 @@ ghost use Rattle.suites.specs.Numbers.{answer_number};
 ghost use Rattle.suites.specs.Suites.{limit};
 ghost use Rattle.pieces.specs.ByPieces.{void, begin_refusal, sound, state_refusal, take_refusal, took, piece_text};
 ghost use Rattle.pieces.specs.ByPieces.{BeginAllows, TakeAllows, FinishAllows};
+ghost use Rattle.pieces.specs.Refusing.{Refuses};
 
 use deoxys_bc::Count;
 use suites::{LIMIT, Refused};
 use tweakey::Subkeys;
 
+// Numbers and stages are bytes that C hands over, and any of them has a meaning (docs/DECISIONS.md), so they are no enums.
 // The stages. Whatever is above FINISHED is finished too.
 const OPEN: u8 = 0;
 
@@ -61,6 +63,7 @@ pub struct Finished {
 }
 
 // The state of a refused begin, which answers every call with its number.
+#[tactic(auto, unfolding(octets::specs::Octets::zero_block))]
 fn void(number: u8) -> Pieces
     ensures { result ≡ void number }
 {
@@ -115,85 +118,54 @@ pub fn begin(suite: u8, key: &[u8], nonce: &[u8], ad: &[u8]) -> Pieces
 }
 
 // The stage after a piece of so many bytes.
-#[tactic(auto, using(crate::proofs::Refusals::stays_open, crate::proofs::Refusals::closes))]
 fn stage_after(bytes: usize) -> u8
     ensures { result ≡ pick (eqb (bytes % 16) 0) 0 1 }
 {
-    if bytes % 16 == 0 {
-        return OPEN;
-    }
-    CLOSED
+    if bytes % 16 == 0 { OPEN } else { CLOSED }
 }
 
 // 5 where the total would be above the limit. No sum that could wrap: what is left under the limit is compared.
-#[tactic(auto, using(crate::proofs::Refusals::over, crate::proofs::Refusals::not_over))]
-fn length_refusal(total: usize, bytes: usize) -> u8
-    ensures { result ≡ pick (ltb limit (total + bytes)) 5 0 }
+fn length_refusal(total: usize, bytes: usize) -> Result<(), u8>
+    ensures { Refuses (pick (ltb limit (total + bytes)) 5 0) result }
 {
-    if LIMIT < bytes {
-        return TOO_LONG;
+    if LIMIT < bytes || LIMIT - bytes < total {
+        return Err(TOO_LONG);
     }
-    if LIMIT - bytes < total {
-        return TOO_LONG;
-    }
-    0
-}
-
-// The first of two numbers that refuses.
-fn first_of(number: u8, next: u8) -> u8
-    ensures { result ≡ pick (eqb number 0) next number }
-{
-    if number != 0 {
-        return number;
-    }
-    next
+    Ok(())
 }
 
 impl Pieces {
     // What holds of a state that a begin and its pieces gave. C can make any: a wiped one has no rounds, and would leave a message nearly as
     // it is.
-    #[tactic(auto, using(crate::proofs::Refusals::soundness))]
     fn is_sound(self) -> bool
         ensures { result ≡ sound self }
     {
-        if LIMIT < self.total {
-            return false;
-        }
-        if MOST_ROWS < self.count.rows {
-            return false;
-        }
-        if self.keys.rounds == 14 {
-            return true;
-        }
-        if self.keys.rounds == 16 {
-            return true;
-        }
-        false
+        self.total <= LIMIT
+            && self.count.rows <= MOST_ROWS
+            && (self.keys.rounds == 14 || self.keys.rounds == 16)
     }
 
     // Begin's number, or 8 past this stage or where the state is not sound.
-    fn state_refusal(self, last: u8) -> u8
-        ensures { result ≡ state_refusal self last }
+    #[tactic(auto, unfolding(crate::specs::ByPieces::state_refusal))]
+    fn state_refusal(self, last: u8) -> Result<(), u8>
+        ensures { Refuses (state_refusal self last) result }
     {
         if self.number != 0 {
-            return self.number;
+            return Err(self.number);
         }
-        if last < self.stage {
-            return NO_MORE;
+        if last < self.stage || !self.is_sound() {
+            return Err(NO_MORE);
         }
-        if self.is_sound() {
-            return 0;
-        }
-        NO_MORE
+        Ok(())
     }
 
     // What the state refuses comes before the length.
-    fn take_refusal(self, bytes: usize) -> u8
-        ensures { result ≡ take_refusal self bytes }
+    #[tactic(auto, unfolding(crate::specs::ByPieces::take_refusal))]
+    fn take_refusal(self, bytes: usize) -> Result<(), u8>
+        ensures { Refuses (take_refusal self bytes) result }
     {
-        let state = self.state_refusal(OPEN);
-        let length = length_refusal(self.total, bytes);
-        first_of(state, length)
+        self.state_refusal(OPEN)?;
+        length_refusal(self.total, bytes)
     }
 
     // A piece that nothing refuses. The checksum is of the message, so it comes before the enciphering.
@@ -210,7 +182,7 @@ impl Pieces {
         let count = deoxys_i::crypt_message(self.keys, &nonce, first, piece, false, self.count);
         self.checksum = sum;
         self.count = count;
-        self.total = self.total + bytes;
+        self.total += bytes;
         self.stage = stage_after(bytes);
         self
     }
@@ -219,8 +191,7 @@ impl Pieces {
     pub fn take(mut self, piece: &mut [u8]) -> Taken
         ensures { TakeAllows self piece.old (record { answer = result; piece = piece.new }) }
     {
-        let number = self.take_refusal(piece.len());
-        if number != 0 {
+        if let Err(number) = self.take_refusal(piece.len()) {
             return Taken {
                 pieces: self,
                 number,
@@ -237,8 +208,7 @@ impl Pieces {
     pub fn finish(mut self) -> Finished
         ensures { FinishAllows self result }
     {
-        let number = self.state_refusal(CLOSED);
-        if number != 0 {
+        if let Err(number) = self.state_refusal(CLOSED) {
             return Finished {
                 pieces: self,
                 number,

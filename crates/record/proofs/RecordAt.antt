@@ -12,9 +12,9 @@ use Rattle.record.specs.declared.reader.Texts.{Texts}
 use Rattle.fields.specs.Fields.{number2, Read, refused, got, and_then, take_field, take_fields}
 use Rattle.record.specs.HouseRecord.{suite_rule, row_rule, text_rules, Content, content_of, take_record, no_record, found_at, answer_at, reading}
 use Rattle.fields.specs.Answers.{part}
-use Rattle.record.specs.Parts.{HeadRead, TextsRead}
+use Rattle.record.specs.Parts.{HeadGot, TextsGot}
 use Rattle.fields.proofs.FieldAt.{part_at, part_length}
-use Rattle.fields.proofs.Readings.{answered_got, answered-refused, fields_join}
+use Rattle.fields.proofs.Readings.{fields_join}
 use Rattle.record.proofs.Sizes.{written-length}
 
 -- what is told of a content, in numbers
@@ -40,7 +40,7 @@ told_of at c suite row nonce note cipher n₁ n₂ n₃ n₄ bytes e₁ e₂ e�
     let w : bytes ≡ 21 + length c.nonce + length c.note + length c.cipher + length c.tag = omega arith in
     rw (written-length c, ← w, e₁, e₂, e₃, e₄, e₅, a₁, a₂, a₃, a₄)
 
-module _ (s : List ℕ) (n : ℕ) (h : HeadRead s n) (at : ℕ) where
+module _ (s : List ℕ) where
   all_fields : (x : Read (List (List ℕ))) → take_fields (suite_rule ∷ row_rule ∷ []) s ≡ x
       → take_record s
       ≡ and_then
@@ -49,65 +49,62 @@ module _ (s : List ℕ) (n : ℕ) (h : HeadRead s n) (at : ℕ) where
   unfolding take_record
   all_fields x e = rw (fields_join (suite_rule ∷ row_rule ∷ []) (text_rules (nonce_length (get_or s 3 0))) s, e)
 
-  pub head_refused : (n ≡ 0 → ⊥) → no_record n ≡ answer_at at (take_record s)
-  head_refused z = sym (ap (λ (x : Read Content). answer_at at x) (all_fields (refused n) (h.given ∙ answered-refused n _ _ z)))
+  pub head_refused : (n : ℕ) → take_fields (suite_rule ∷ row_rule ∷ []) s ≡ refused n → take_record s ≡ refused n
+  head_refused n e = all_fields (refused n) e
 
-  module _ (z : n ≡ 0) (m : ℕ) (of-suite : m ≡ nonce_length (get_or s 3 0)) (t : Texts) (lent : TextsRead m (take (length s - 9) (drop 9 s)) t)
-    where
-      g : TextsRead (nonce_length (get_or s 3 0)) (drop 9 s) t
-      g = subst (λ (l : List ℕ). TextsRead (nonce_length (get_or s 3 0)) l t) (rest_is s 9)
-          (subst (λ (k : ℕ). TextsRead k (take (length s - 9) (drop 9 s)) t) of-suite lent)
+  module _ (h : HeadGot s) (m : ℕ) (of-suite : m ≡ nonce_length (get_or s 3 0)) where
+    texts : (x : Read (List (List ℕ))) → take_fields (text_rules (nonce_length (get_or s 3 0))) (drop 9 s) ≡ x
+        → take_record s ≡ and_then x (λ more after. got (content_of (part s 3 1 ∷ part s 7 2 ∷ more)) after)
+    texts x e = all_fields (got (part s 3 1 ∷ part s 7 2 ∷ []) (drop 9 s)) h.given ∙ rw e (end x)
+      where
+        end : (x : Read (List (List ℕ)))
+            → and_then (and_then x (λ more after. got ((part s 3 1 ∷ part s 7 2 ∷ []) ++ more) after))
+            (λ found left. got (content_of found) left)
+            ≡ and_then x (λ more after. got (content_of (part s 3 1 ∷ part s 7 2 ∷ more)) after)
+        end (refused number) = refl
+        end (got more after) = refl
 
-      texts : (x : Read (List (List ℕ))) → take_fields (text_rules (nonce_length (get_or s 3 0))) (drop 9 s) ≡ x
-          → take_record s ≡ and_then x (λ more after. got (content_of (part s 3 1 ∷ part s 7 2 ∷ more)) after)
-      texts x e =
-          all_fields (got (part s 3 1 ∷ part s 7 2 ∷ []) (drop 9 s)) (h.given ∙ answered_got n _ _ z)
-          ∙ rw e (end x)
-        where
-          end : (x : Read (List (List ℕ)))
-              → and_then (and_then x (λ more after. got ((part s 3 1 ∷ part s 7 2 ∷ []) ++ more) after))
-              (λ found left. got (content_of found) left)
-              ≡ and_then x (λ more after. got (content_of (part s 3 1 ∷ part s 7 2 ∷ more)) after)
-          end (refused number) = refl
-          end (got more after) = refl
+    pub texts_refused : (n : ℕ) → take_fields (text_rules m) (take (length s - 9) (drop 9 s)) ≡ refused n → take_record s ≡ refused n
+    texts_refused n e = texts (refused n) (rw (rest_is s 9, of-suite) at e)
 
-      pub texts_refused : (t.number ≡ 0 → ⊥) → no_record t.number ≡ answer_at at (take_record s)
-      texts_refused y = sym (ap (λ (x : Read Content). answer_at at x) (texts (refused t.number) (g.given ∙ answered-refused _ _ _ y)))
+    module _ (t : Texts) (lent : TextsGot m (take (length s - 9) (drop 9 s)) t) where
+      g : TextsGot (nonce_length (get_or s 3 0)) (drop 9 s) t
+      g = subst (λ (l : List ℕ). TextsGot (nonce_length (get_or s 3 0)) l t) (rest_is s 9)
+          (subst (λ (k : ℕ). TextsGot k (take (length s - 9) (drop 9 s)) t) of-suite lent)
 
-      module _ (y : t.number ≡ 0) where
-        pub record_room : 37 + m + t.note + t.cipher ≤ length s
-        record_room =
-            let h9 = h.within z in
-            let w : 28 + nonce_length (get_or s 3 0) + t.note + t.cipher ≤ length s - 9 = rw (length-drop 9 s) at (g.within y) in
-            omega (arith, h9, w, of-suite)
+      pub record_room : 37 + m + t.note + t.cipher ≤ length s
+      record_room =
+          let h9 = h.within in
+          let w : 28 + nonce_length (get_or s 3 0) + t.note + t.cipher ≤ length s - 9 = rw (length-drop 9 s) at g.within in
+          omega (arith, h9, w, of-suite)
 
-        pub record_read : (row n₁ n₂ n₃ n₄ bytes : ℕ) → row ≡ number2 (get_or s 7 0) (get_or s 8 0) → n₁ ≡ at + 12
-            → n₂ ≡ at + 15 + m → n₃ ≡ at + 18 + m + t.note → n₄ ≡ at + 21 + m + t.note + t.cipher
-            → bytes ≡ 37 + m + t.note + t.cipher
-            → ◌≡◌ {A = Record}
-            (record {
-              number = 0;
-              suite = get_or s 3 0;
-              row = row;
-              nonce = n₁;
-              nonce_length = m;
-              note = n₂;
-              note_length = t.note;
-              cipher = n₃;
-              cipher_length = t.cipher;
-              tag = n₄;
-              length = bytes;
-            })
-            (answer_at at (take_record s))
-        record_read row n₁ n₂ n₃ n₄ bytes f a₁ a₂ a₃ a₄ b =
-            let w = g.within y in
-            let k = nonce_length (get_or s 3 0) in
-            told_of at _ (get_or s 3 0) row m t.note t.cipher n₁ n₂ n₃ n₄ bytes (part_at s 3 1 0 (omega arith))
-            (rw (f, part_at s 7 2 0 (omega arith), part_at s 7 2 1 (omega arith)))
-            (rw of-suite (part_length (drop 9 s) 3 k (omega (arith, w)))) (part_length (drop 9 s) (6 + k) t.note (omega (arith, w)))
-            (part_length (drop 9 s) (9 + k + t.note) t.cipher (omega (arith, w)))
-            (part_length (drop 9 s) (12 + k + t.note + t.cipher) 16 (omega (arith, w))) a₁ a₂ a₃ a₄ b
-            ∙ sym (ap (λ (x : Read Content). answer_at at x) (texts _ (g.given ∙ answered_got _ _ _ y)))
+      pub record_read : (at row n₁ n₂ n₃ n₄ bytes : ℕ) → row ≡ number2 (get_or s 7 0) (get_or s 8 0) → n₁ ≡ at + 12
+          → n₂ ≡ at + 15 + m → n₃ ≡ at + 18 + m + t.note → n₄ ≡ at + 21 + m + t.note + t.cipher
+          → bytes ≡ 37 + m + t.note + t.cipher
+          → ◌≡◌ {A = Record}
+          (record {
+            number = 0;
+            suite = get_or s 3 0;
+            row = row;
+            nonce = n₁;
+            nonce_length = m;
+            note = n₂;
+            note_length = t.note;
+            cipher = n₃;
+            cipher_length = t.cipher;
+            tag = n₄;
+            length = bytes;
+          })
+          (answer_at at (take_record s))
+      record_read at row n₁ n₂ n₃ n₄ bytes f a₁ a₂ a₃ a₄ b =
+          let w = g.within in
+          let k = nonce_length (get_or s 3 0) in
+          told_of at _ (get_or s 3 0) row m t.note t.cipher n₁ n₂ n₃ n₄ bytes (part_at s 3 1 0 (omega arith))
+          (rw (f, part_at s 7 2 0 (omega arith), part_at s 7 2 1 (omega arith)))
+          (rw of-suite (part_length (drop 9 s) 3 k (omega (arith, w)))) (part_length (drop 9 s) (6 + k) t.note (omega (arith, w)))
+          (part_length (drop 9 s) (9 + k + t.note) t.cipher (omega (arith, w)))
+          (part_length (drop 9 s) (12 + k + t.note + t.cipher) 16 (omega (arith, w))) a₁ a₂ a₃ a₄ b
+          ∙ sym (ap (λ (x : Read Content). answer_at at x) (texts _ g.given))
 
 -- past the end there are no bytes left
 pub past_end : (s : List ℕ) (at : ℕ) → length s < at → no_record 10 ≡ reading s at

@@ -9,6 +9,7 @@ use native.Mathlib.Omega.{arith}
 use lib.Dec.{eqb, leb}
 use lib.ListN.{length, drop, length-append}
 use borrow.Author.Tests.{eq-eqb, ne_eqb, le-leb, lt-leb, eqb-true, leb-true, leb-false}
+use Rattle.std.specs.Int.{w16, to_be_bytes}
 use Rattle.octets.specs.Octets.{pick, big_endian}
 use Rattle.octets.proofs.Parts.{put_length}
 use Rattle.suites.specs.Suites.{nonce_length}
@@ -104,6 +105,9 @@ module _ (n : ℕ) (nonce note cipher tag : List ℕ) where
 
         pub texts_fit : length tag ≡ 16 → ◌≡◌ {A = ℕ} 0 (fields_refusal (text_rules n) (nonce ∷ note ∷ cipher ∷ tag ∷ []))
         texts_fit e = after_cipher 0 (sym (fitting 6 16 16 tag (omega (arith, e)) (omega (arith, e))))
+
+-- for each return of `texts_refusal`
+pub ruleset lengths = (nonce_other, note_long, cipher_long, tag_other, texts_fit)
 
 -- what no refusal of the texts says of their lengths
 pub record Fit (n : ℕ) (nonce note cipher tag : List ℕ) : Type 0 where
@@ -225,13 +229,10 @@ six_laid c d₀ d₁ d₂ d₃ d₄ d₅ d₆ row a₁ a₂ a₃ a₄ a₅ h r e
     ∙ ap (λ (x : List ℕ). laid_at 0 (field 1 (c.suite ∷ []) ++ (field 2 x ++
     (field 3 c.nonce ++ (field 4 c.note ++ (field 5 c.cipher ++ (field 6 c.tag ++ [])))))) d₀) r
 
--- the two bytes of a row as the code makes them
-pub row_spelt : (row : ℕ) → row < 65536 → row / 256 ∷ row % 256 ∷ [] ≡ big_endian 2 row
+-- the two bytes of a row as the library makes them
+pub row_spelt : (row : ℕ) → to_be_bytes w16 row ≡ big_endian 2 row
 unfolding big_endian
-row_spelt row h =
-    let a : row / 256 ^ 1 % 256 ≡ row / 256 = omega arith in
-    let b : row / 256 ^ 0 % 256 ≡ row % 256 = omega arith in
-    rw (a, b)
+row_spelt row = let b : row / 256 ^ 0 % 256 ≡ row % 256 = omega arith in rw b
 
 -- ---- the associated data of a sealed row
 

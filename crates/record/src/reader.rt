@@ -1,11 +1,12 @@
 // The reader: of one record at a place, and of a bundle.
 ghost use Rattle.std.specs.Prelude.{◌≡◌, ◌+◌, ◌<◌, ◌^◌, length};
-ghost use Rattle.record.specs.HouseRecord.{take_record, no_record, answer_at, ReadAllows, BundleAllows};
-ghost use Rattle.record.specs.Parts.{HeadRead, TextsRead};
+ghost use Rattle.record.specs.HouseRecord.{no_record, ReadAllows, BundleAllows};
+ghost use Rattle.record.specs.Parts.{HeadRead, TextsRead, RecordRead};
 
 use crate::house;
-use fields::{pair, range_refusal, read_field, wide};
+use fields::{Refused, pair, range_refusal, read_field};
 
+// A number, as NO_ROOM of the writer: each is answered in one place, and an enum about it would be made and taken apart there.
 const TOO_MANY: u8 = 15;
 
 pub const MOST_RECORDS: usize = 64;
@@ -36,10 +37,9 @@ pub struct Bundle {
     pub records: usize,
 }
 
-// The fields from the nonce on: a number, and how long the note and the ciphertext are.
+// How long the note and the ciphertext are.
 #[derive(Clone, Copy)]
 struct Texts {
-    number: u8,
     note: usize,
     cipher: usize,
 }
@@ -63,86 +63,45 @@ fn no_record(number: u8) -> Record
 }
 
 // The fields of suite and row, which take nine bytes.
-fn head_refusal(left: &[u8]) -> u8
+fn read_head(left: &[u8]) -> Result<(), Refused>
     ensures { HeadRead left.now result }
 {
-    let suite = read_field(left, house::SUITE, 1, 1);
-    if suite.number != 0 {
-        return suite.number;
-    }
-    let range = range_refusal(wide(left[3]), house::MOST_SUITE);
-    if range != 0 {
-        return range;
-    }
-    let row = read_field(&left[4..], house::ROW, 2, 2);
-    if row.number != 0 {
-        return row.number;
-    }
-    range_refusal(pair(left, 7), house::MOST_ROW)
-}
-
-fn no_texts(number: u8) -> Texts
-    ensures { result ≡ record { number = number; note = 0; cipher = 0 } }
-{
-    Texts {
-        number,
-        note: 0,
-        cipher: 0,
-    }
+    read_field(left, house::SUITE, 1, 1)?;
+    range_refusal(usize::from(left[3]), house::MOST_SUITE)?;
+    read_field(&left[4..], house::ROW, 2, 2)?;
+    range_refusal(usize::from(pair(left, 7)), house::MOST_ROW)
 }
 
 // The fields of nonce, note, ciphertext and tag.
-fn read_texts(left: &[u8], nonce: usize) -> Texts
+fn read_texts(left: &[u8], nonce: usize) -> Result<Texts, Refused>
     ensures { TextsRead nonce left.now result }
 {
-    let first = read_field(left, house::NONCE, nonce, nonce);
-    if first.number != 0 {
-        return no_texts(first.number);
-    }
-    let at = 3 + first.bytes;
-    let note = read_field(&left[at..], house::NOTE, 0, house::MOST_NOTE);
-    if note.number != 0 {
-        return no_texts(note.number);
-    }
-    let at = at + 3 + note.bytes;
-    let cipher = read_field(&left[at..], house::CIPHER, 0, house::MOST_CIPHER);
-    if cipher.number != 0 {
-        return no_texts(cipher.number);
-    }
-    let at = at + 3 + cipher.bytes;
-    let tag = read_field(&left[at..], house::TAG, house::TAG_BYTES, house::TAG_BYTES);
-    if tag.number != 0 {
-        return no_texts(tag.number);
-    }
-    Texts {
-        number: 0,
-        note: note.bytes,
-        cipher: cipher.bytes,
-    }
+    let bytes = read_field(left, house::NONCE, nonce, nonce)?;
+    let at = 3 + bytes;
+    let note = read_field(&left[at..], house::NOTE, 0, house::MOST_NOTE)?;
+    let at = at + 3 + note;
+    let cipher = read_field(&left[at..], house::CIPHER, 0, house::MOST_CIPHER)?;
+    let at = at + 3 + cipher;
+    read_field(&left[at..], house::TAG, house::TAG_BYTES, house::TAG_BYTES)?;
+    Ok(Texts { note, cipher })
 }
 
 // The record that the bytes left begin with; its place is that of the bytes left.
-fn read_left(left: &[u8], at: usize) -> Record
+fn read_left(left: &[u8], at: usize) -> Result<Record, Refused>
     requires { at + length left.now < 2 ^ 64 }
-    ensures { result ≡ answer_at at (take_record left.now) }
+    ensures { RecordRead at left.now result }
 {
-    let number = head_refusal(left);
-    if number != 0 {
-        return no_record(number);
-    }
+    read_head(left)?;
     let suite = left[3];
     let nonce_length = suites::nonce_length(suite);
-    let texts = read_texts(&left[9..], nonce_length);
-    if texts.number != 0 {
-        return no_record(texts.number);
-    }
+    let texts = read_texts(&left[9..], nonce_length)?;
     let note = at + 15 + nonce_length;
     let cipher = note + texts.note + 3;
     let tag = cipher + texts.cipher + 3;
-    Record {
+    Ok(Record {
         number: 0,
         suite,
-        row: pair(left, 7) as u16,
+        row: pair(left, 7),
         nonce: at + 12,
         nonce_length,
         note,
@@ -151,7 +110,7 @@ fn read_left(left: &[u8], at: usize) -> Record
         cipher_length: texts.cipher,
         tag,
         length: tag + house::TAG_BYTES - at,
-    }
+    })
 }
 
 // The record at a place. Past the end there are no bytes left, as at the end.
@@ -159,9 +118,12 @@ pub fn read(bytes: &[u8], at: usize) -> Record
     ensures { ReadAllows bytes.now at result }
 {
     if bytes.len() < at {
-        return no_record(fields::MISSING);
+        return no_record(Refused::Missing.number());
     }
-    read_left(&bytes[at..], at)
+    match read_left(&bytes[at..], at) {
+        Ok(record) => record,
+        Err(refused) => no_record(refused.number()),
+    }
 }
 
 fn no_bundle(number: u8) -> Bundle
@@ -184,8 +146,8 @@ pub fn read_bundle(bytes: &[u8]) -> Bundle
         if record.number != 0 {
             return no_bundle(record.number);
         }
-        at = at + record.length;
-        records = records + 1;
+        at += record.length;
+        records += 1;
     }
     Bundle { number: 0, records }
 }

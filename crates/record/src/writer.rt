@@ -3,10 +3,10 @@ ghost use Rattle.std.specs.Prelude.{◌≡◌, [], ◌∷◌, ◌+◌, ◌≤◌
 ghost use Rattle.octets.specs.Octets.{big_endian};
 ghost use Rattle.fields.specs.Fields.{fields_refusal};
 ghost use Rattle.record.specs.HouseRecord.{suite_rule, row_rule, text_rules, written, WriteAllows, RowDataAllows};
-ghost use Rattle.fields.specs.Answers.{laid_at};
+ghost use Rattle.fields.specs.Answers.{answer_number, laid_at};
 
 use crate::house;
-use fields::{put, put_field, range_refusal, wide};
+use fields::{Refused, put, put_field, range_refusal};
 
 const NO_ROOM: u8 = 24;
 
@@ -23,48 +23,40 @@ pub struct Written {
     pub length: usize,
 }
 
-fn refused(number: u8) -> Written
+fn unwritten(number: u8) -> Written
     ensures { result ≡ record { number = number; length = 0 } }
 {
     Written { number, length: 0 }
 }
 
-// A row's two bytes, the higher first.
-fn row_bytes(row: u16) -> [u8; 2]
-    ensures { result ≡ big_endian 2 row }
+// The ranges of suite and row.
+fn head_refusal(suite: u8, row: u16) -> Result<(), Refused>
+    ensures { answer_number result ≡ fields_refusal (suite_rule ∷ row_rule ∷ []) ((suite ∷ []) ∷ big_endian 2 row ∷ []) }
 {
-    [(row / 256) as u8, (row % 256) as u8]
-}
-
-// The numbers of suite and row.
-fn head_refusal(suite: u8, row: u16) -> u8
-    ensures { result ≡ fields_refusal (suite_rule ∷ row_rule ∷ []) ((suite ∷ []) ∷ big_endian 2 row ∷ []) }
-{
-    let number = range_refusal(wide(suite), house::MOST_SUITE);
-    if number != 0 {
-        return number;
-    }
-    range_refusal(row as usize, house::MOST_ROW)
+    range_refusal(usize::from(suite), house::MOST_SUITE)?;
+    range_refusal(usize::from(row), house::MOST_ROW)
 }
 
 // The lengths of nonce, note, ciphertext and tag.
-fn texts_refusal(nonce_length: usize, nonce: &[u8], note: &[u8], cipher: &[u8], tag: &[u8]) -> u8
-    ensures { result ≡ fields_refusal (text_rules nonce_length)
+#[tactic(auto, using(crate::proofs::Writings::lengths))]
+fn texts_refusal(
+    nonce_length: usize,
+    nonce: &[u8],
+    note: &[u8],
+    cipher: &[u8],
+    tag: &[u8],
+) -> Result<(), Refused>
+    ensures { answer_number result ≡ fields_refusal (text_rules nonce_length)
         (nonce.now ∷ note.now ∷ cipher.now ∷ tag.now ∷ []) }
 {
-    if nonce.len() != nonce_length {
-        return fields::WRONG_LENGTH;
+    if nonce.len() != nonce_length
+        || house::MOST_NOTE < note.len()
+        || house::MOST_CIPHER < cipher.len()
+        || tag.len() != house::TAG_BYTES
+    {
+        return Err(Refused::WrongLength);
     }
-    if house::MOST_NOTE < note.len() {
-        return fields::WRONG_LENGTH;
-    }
-    if house::MOST_CIPHER < cipher.len() {
-        return fields::WRONG_LENGTH;
-    }
-    if tag.len() != house::TAG_BYTES {
-        return fields::WRONG_LENGTH;
-    }
-    0
+    Ok(())
 }
 
 // The six fields one after another.
@@ -88,10 +80,8 @@ fn lay(
       tag = tag.now;
     })) destination.old }
 {
-    let suite_byte = [suite];
-    let row_number = row_bytes(row);
-    let at = put_field(destination, 0, house::SUITE, &suite_byte);
-    let at = put_field(destination, at, house::ROW, &row_number);
+    let at = put_field(destination, 0, house::SUITE, &[suite]);
+    let at = put_field(destination, at, house::ROW, &row.to_be_bytes());
     let at = put_field(destination, at, house::NONCE, nonce);
     let at = put_field(destination, at, house::NOTE, note);
     let at = put_field(destination, at, house::CIPHER, cipher);
@@ -117,17 +107,15 @@ pub fn write(
       tag = tag.now;
     }) destination.old (record { answer = result; destination = destination.new }) }
 {
-    let number = head_refusal(suite, row);
-    if number != 0 {
-        return refused(number);
+    if let Err(refused) = head_refusal(suite, row) {
+        return unwritten(refused.number());
     }
-    let number = texts_refusal(suites::nonce_length(suite), nonce, note, cipher, tag);
-    if number != 0 {
-        return refused(number);
+    if let Err(refused) = texts_refusal(suites::nonce_length(suite), nonce, note, cipher, tag) {
+        return unwritten(refused.number());
     }
     let length = FIXED_BYTES + nonce.len() + note.len() + cipher.len();
     if destination.len() < length {
-        return refused(NO_ROOM);
+        return unwritten(NO_ROOM);
     }
     lay(suite, row, nonce, note, cipher, tag, destination);
     Written { number: 0, length }
@@ -138,19 +126,17 @@ pub fn write_row_data(row: u16, note: &[u8], destination: &mut [u8]) -> Written
     ensures { RowDataAllows row note.now destination.old
         (record { answer = result; destination = destination.new }) }
 {
-    let number = range_refusal(row as usize, house::MOST_ROW);
-    if number != 0 {
-        return refused(number);
+    if let Err(refused) = range_refusal(usize::from(row), house::MOST_ROW) {
+        return unwritten(refused.number());
     }
     if house::MOST_NOTE < note.len() {
-        return refused(fields::WRONG_LENGTH);
+        return unwritten(Refused::WrongLength.number());
     }
     let bytes = ROW_BYTES + note.len();
     if destination.len() < bytes {
-        return refused(NO_ROOM);
+        return unwritten(NO_ROOM);
     }
-    let row_number = row_bytes(row);
-    let at = put(destination, 0, &row_number);
+    let at = put(destination, 0, &row.to_be_bytes());
     put(destination, at, note);
     Written {
         number: 0,

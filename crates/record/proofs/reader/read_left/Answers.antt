@@ -1,16 +1,20 @@
--- `record::reader::read_left` meets its contract: the head's number, the texts' number, or the record and its places.
+-- `record::reader::read_left` meets its contract: the head's refusal, the texts' refusal, or the record and its places.
 -- Assumes nothing.
-use Rattle.record.proofs.RecordAt.{head_refused, texts_refused, record_read}
 use native.Mathlib.Omega.{arith}
+use Rattle.std.proofs.lemmas.Result.{err_from_is_err_and}
+use Rattle.record.proofs.RecordAt.{head_refused, texts_refused, record_read}
 use Rattle.record.proofs.reader.read_left.Goals as goal
 
-pub returns-then-number-ne0 : goal.returns-then-number-ne0
-returns-then-number-ne0 c = rw c.no_record.ensures (head_refused _ _ c.head_refusal-number.ensures _ c.if-number-ne0.true)
+pub returns-in_err-read_head : goal.returns-in_err-read_head
+returns-in_err-read_head c =
+    let p = err_from_is_err_and c.from_residual.result c.from_residual.ensures.1 in
+    rw (p.1, p.2) (head_refused _ _ c.in_err-read_head.ensures)
 
-pub returns-then-texts-ne0 : goal.returns-then-texts-ne0
-returns-then-texts-ne0 c = rw c.no_record-then-texts-ne0.ensures (texts_refused _ _ c.head_refusal-number.ensures c.args.at c.if-number-ne0.false _ c.nonce_length-nonce_length.ensures
-    _ c.read_texts-texts.ensures c.if-texts-ne0.true)
+pub returns-in_err-texts : goal.returns-in_err-texts
+returns-in_err-texts c =
+    let p = err_from_is_err_and c.from_residual-in_err-texts.result c.from_residual-in_err-texts.ensures.1 in
+    rw (p.1, p.2) (texts_refused _ c.in_ok-read_head.ensures _ c.nonce_length-nonce_length.ensures _ c.in_err-texts.ensures)
 
 pub returns : goal.returns
-returns c = record_read _ _ c.head_refusal-number.ensures c.args.at c.if-number-ne0.false _ c.nonce_length-nonce_length.ensures _ c.read_texts-texts.ensures
-    c.if-texts-ne0.false _ _ _ _ _ _ c.pair.ensures.value (omega arith) (omega arith) (omega arith) (omega arith) (omega arith)
+returns c = record_read _ c.in_ok-read_head.ensures _ c.nonce_length-nonce_length.ensures _ c.in_ok-texts.ensures c.args.at _ _ _ _ _ _ c.pair.ensures
+    (omega arith) (omega arith) (omega arith) (omega arith) (omega arith)

@@ -1,13 +1,20 @@
 -- `record::writer::head_refusal` meets its contract: the suite's number, and then the row's.
 -- Assumes nothing.
-use Rattle.record.proofs.Writings.{suite_number, row_then}
+use mathlib.Core.Path.{refl}
+use native.Mathlib.Nat.{suc-ne-zero}
 use borrow.Author.Rules.{rules}
+use Rattle.std.proofs.lemmas.Result.{err_from_is_err_and}
+use Rattle.fields.proofs.Numbers.{range_number}
+use Rattle.record.proofs.Writings.{suite_number, row_then}
 use Rattle.record.proofs.writer.head_refusal.Goals as goal
 
-pub returns-then-number-ne0 : goal.returns-then-number-ne0
-returns-then-number-ne0 c = suite_number c.args.suite c.args.row (search rules) _ (rw c.wide.ensures.0 at c.range_refusal-number.ensures)
-    c.if-number-ne0.true
+pub returns-in_err-range_refusal : goal.returns-in_err-range_refusal
+returns-in_err-range_refusal c =
+    let p = err_from_is_err_and c.from_residual.result c.from_residual.ensures.1 in
+    let b = rw c.from.ensures at c.in_err-range_refusal.ensures.1 in
+    rw (p.1, p.2, c.in_err-range_refusal.ensures.0) (suite_number c.args.suite c.args.row (search rules) 13 (rw b refl) (suc-ne-zero 12))
 
 pub returns : goal.returns
-returns c = row_then c.args.suite c.args.row (search rules) _ _ (rw c.wide.ensures.0 at c.range_refusal-number.ensures)
-    c.if-number-ne0.false c.range_refusal.ensures
+returns c =
+    let b = rw c.from.ensures at c.in_ok-range_refusal.ensures in
+    row_then c.args.suite c.args.row (search rules) 0 _ (rw b refl) refl (range_number _ _ (rw c.from-2.ensures at c.range_refusal-2.ensures))
