@@ -1,15 +1,15 @@
 -- Laws of the numbers and bytes that a field spells. Assumes nothing.
 use mathlib.Core.Path.{◌≡◌, refl, sym, ap, ◌∙◌}
-use mathlib.Core.Bool.{Bool, true, false, false≢true}
+use mathlib.Core.Bool.{Bool, true, false}
 use mathlib.Core.List.{List, [], ◌∷◌, ◌++◌, append_assoc, append-nil}
 use Prim.Native.Nat.{ℕ, zero, suc, ◌+◌, ◌-◌, ◌*◌, ◌/◌, ◌%◌, ◌≤◌, ◌<◌}
 use native.Mathlib.Nat.{not-suc-le-zero, le_of_suc-le-suc, add-zero, zero-add, add-suc, suc-add}
 use native.Mathlib.Numerals.{add-one}
 use native.Mathlib.Omega.{arith}
-use lib.Dec.{eqb, leb, ltb}
+use lib.Dec.{leb}
 use lib.ListN.{length, take, drop, get_or, set, length-take, drop_of_length-le, take-append-drop}
-use lib.Seq.{take-suc, take-take, take-suc-set, take-set-le, length-take-le, drop_at, drop-cons, drop-drop}
-use borrow.Author.Tests.{lt-ltb, le-ltb, leb-true, eq-eqb, ne_eqb}
+use lib.Seq.{take-suc, take-take, take-suc-set, take-set-le, length-take-le, drop_at, drop-cons}
+use borrow.Author.Tests.{lt-ltb, le-ltb, leb-true, ne_eqb}
 use Rattle.io.specs.Digits.{last_digits, hex_digit_ascii}
 use Rattle.octets.specs.Octets.{pick}
 use Rattle.std.specs.Option.{option_and_then}

@@ -28,9 +28,7 @@ pub fn find(text: &[u8], byte: u8, from: usize) -> usize
 fn part(text: &[u8], separator: u8, k: usize) -> &[u8]
     ensures { result.now ≡ part_of separator k text.now }
 {
-    text.split(|byte| *byte == separator)
-        .nth(k)
-        .unwrap_or(&[])
+    text.split(|byte| *byte == separator).nth(k).unwrap_or(&[])
 }
 
 // Line `i` of a text, counted from zero.
