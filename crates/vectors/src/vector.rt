@@ -34,7 +34,13 @@ pub enum Part {
 const PARTS: usize = 6;
 
 // Every part that an opening takes.
-const INPUTS: [Part; 5] = [Part::Key, Part::Nonce, Part::Data, Part::Ciphertext, Part::Tag];
+const INPUTS: [Part; 5] = [
+    Part::Key,
+    Part::Nonce,
+    Part::Data,
+    Part::Ciphertext,
+    Part::Tag,
+];
 
 impl Part {
     fn place(self) -> usize
