@@ -1,7 +1,7 @@
 -- What `0 differ` in a report rests on: a tally with no difference had none before, and nothing differed in what it was given since.
 -- Assumes nothing.
 use mathlib.Core.Path.{◌≡◌, refl}
-use mathlib.Core.Bool.{Bool, true, false, false≢true}
+use mathlib.Core.Bool.{Bool, true, false}
 use Prim.Native.Nat.{ℕ, ◌<◌}
 use native.Mathlib.Nat.{pos_of_ne-zero}
 use native.Mathlib.Omega.{arith}
@@ -13,7 +13,7 @@ use Rattle.differences.specs.declared.tally.Difference.{Difference}
 use Rattle.differences.specs.declared.tally.Seen.{Seen}
 use Rattle.differences.specs.declared.tally.Tally.{Tally}
 use Rattle.differences.specs.declared.tally.What.{What}
-use Rattle.differences.specs.declared.tally.What.TheVariants.{Number, Tag, Rows, Buffer, Inputs, Form}
+use Rattle.differences.specs.declared.tally.What.TheVariants.{Number, Tag, Rows, Buffer, Inputs}
 use Rattle.differences.specs.Tally.{first_difference, plus, counted, with_case, with_difference, with_call, with_bad_line, with_a_case, together}
 
 -- a test that picks nothing held, and so did those after it

@@ -1,7 +1,7 @@
 -- Where a byte first stands; and no line is left out: the lines of a text, as many as `lines_of` counts, joined by line ends are the text.
 -- Assumes nothing.
 use borrow.Author.Tests.{ltb-false}
-use Rattle.std.proofs.Common.{Bor, Option, option_map, Bool, true, false, cond, ◌≤◌, ◌≡◌, refl, sym, ap, ◌∙◌, arith, ℕ, zero, suc, ◌+◌, ◌-◌, List, [], ◌∷◌, ◌++◌, length}
+use Rattle.std.proofs.Common.{Bor, Option, option_map, Bool, true, false, cond, ◌≤◌, ◌≡◌, refl, ap, ◌∙◌, arith, ℕ, zero, suc, ◌-◌, List, [], ◌∷◌, ◌++◌, length}
 use Rattle.std.proofs.lemmas.List.Splits.{length-slice_split, join_with_byte-slice_split}
 use Rattle.std.proofs.lemmas.List.Sums.{prefix_len-le-length}
 use Rattle.std.specs.List.{join_with_byte, position, position_or_len}

@@ -1,15 +1,15 @@
 -- Laws of the numbers and bytes that a field spells. Assumes nothing.
 use mathlib.Core.Path.{◌≡◌, refl, sym, ap, ◌∙◌}
-use mathlib.Core.Bool.{Bool, true, false, false≢true}
+use mathlib.Core.Bool.{Bool, true, false}
 use mathlib.Core.List.{List, [], ◌∷◌, ◌++◌, append_assoc, append-nil}
 use Prim.Native.Nat.{ℕ, zero, suc, ◌+◌, ◌-◌, ◌*◌, ◌/◌, ◌%◌, ◌≤◌, ◌<◌}
 use native.Mathlib.Nat.{not-suc-le-zero, le_of_suc-le-suc, add-zero, zero-add, add-suc, suc-add}
 use native.Mathlib.Numerals.{add-one}
 use native.Mathlib.Omega.{arith}
-use lib.Dec.{eqb, leb, ltb}
+use lib.Dec.{leb}
 use lib.ListN.{length, take, drop, get_or, set, length-take, drop_of_length-le, take-append-drop}
-use lib.Seq.{take-suc, take-take, take-suc-set, take-set-le, length-take-le, drop_at, drop-cons, drop-drop}
-use borrow.Author.Tests.{lt-ltb, le-ltb, leb-true, eq-eqb, ne_eqb}
+use lib.Seq.{take-take, take-suc-set, take-set-le, length-take-le, take_all, drop_at, drop-cons}
+use borrow.Author.Tests.{lt-ltb, le-ltb, leb-true, ne_eqb}
 use Rattle.io.specs.Digits.{last_digits, hex_digit_ascii}
 use Rattle.octets.specs.Octets.{pick}
 use Rattle.std.specs.Option.{option_and_then}
@@ -139,11 +139,22 @@ adds_byte s h l small p q room least =
       spelt = rw (cut_one s.length (h * 16 + l) s.bytes room, d, m, p, q);
     }
 
-pub two_more : (s : List ℕ) (i : ℕ) → 2 * i + 1 < length s → take (2 * (i + 1)) s ≡ take (2 * i) s ++ (get_or s (2 * i) 0 ∷ get_or s (2 * i + 1) 0 ∷ [])
-two_more s i h =
-    let e : 2 * (i + 1) ≡ suc (suc (2 * i)) = omega arith in
-    let f : suc (2 * i) ≡ 2 * i + 1 = omega arith in
-    rw (e, take-suc s (suc (2 * i)) 0 (omega arith), take-suc s (2 * i) 0 (omega arith), append_assoc, f)
+two_off : (l : List ℕ) → 2 ≤ length l → l ≡ get_or l 0 0 ∷ get_or l 1 0 ∷ take (length l - 2) (drop 2 l)
+two_off [] h = absurd (not-suc-le-zero h)
+two_off (x ∷ []) h = absurd (omega arith)
+two_off (x ∷ y ∷ l) h = ap (λ (t : List ℕ). x ∷ y ∷ t) (sym (take_all (suc (suc (length l)) - 2) l (omega arith)))
+
+-- some of a field is spelled, and this is left of it
+abbrev pub SoFar : Spelled → Spelled → List ℕ → List ℕ → Type 0
+SoFar s m field left = (done : List ℕ) × (field ≡ done ++ left) × Adds hexadecimal s m done
+
+pub two_more : (s m r : Spelled) (field left : List ℕ) → 2 ≤ length left → SoFar s m field left
+    → Adds hexadecimal m r (get_or left 0 0 ∷ get_or left 1 0 ∷ []) → SoFar s r field (take (length left - 2) (drop 2 left))
+two_more s m r field left h p q = (
+  p.0 ++ (get_or left 0 0 ∷ get_or left 1 0 ∷ []),
+  p.1 ∙ ap (λ (l : List ℕ). p.0 ++ l) (two_off left h) ∙ sym (append_assoc p.0 (get_or left 0 0 ∷ get_or left 1 0 ∷ []) _),
+  adds_more p.2 q,
+)
 
 spelled_out : (x field : List ℕ) → 0 < length field → field ≡ hexadecimal x → field ≡ spelling x
 unfolding hexadecimal spelling

@@ -28,9 +28,7 @@ pub fn find(text: &[u8], byte: u8, from: usize) -> usize
 fn part(text: &[u8], separator: u8, k: usize) -> &[u8]
     ensures { result.now ≡ part_of separator k text.now }
 {
-    text.split(|byte| *byte == separator)
-        .nth(k)
-        .unwrap_or(&[])
+    text.split(|byte| *byte == separator).nth(k).unwrap_or(&[])
 }
 
 // Line `i` of a text, counted from zero.
@@ -114,7 +112,7 @@ fn digit(byte: u8) -> Option<u8>
     }
 }
 
-// The bytes that a line's fields have spelled so far.
+// The bytes that a line's fields have spelled so far. An array and a length: nothing is allocated here.
 #[derive(Clone, Copy)]
 pub struct Spelled {
     pub bytes: [u8; 256],
@@ -122,6 +120,7 @@ pub struct Spelled {
 }
 
 impl Spelled {
+    // No bytes yet.
     pub fn nothing() -> Spelled
         ensures { Fresh result }
     {
@@ -149,13 +148,12 @@ impl Spelled {
         requires { self.length ≤ 256 }
         ensures { IfSome result (λ r. Adds hexadecimal self r field.now) }
     {
-        if field.len() % 2 == 1 {
-            return None;
+        let mut left = field;
+        while let [high, low, rest @ ..] = left {
+            self = self.with_byte(*high, *low)?;
+            left = rest;
         }
-        for i in 0..field.len() / 2 {
-            self = self.with_byte(field[2 * i], field[2 * i + 1])?;
-        }
-        Some(self)
+        left.is_empty().then_some(self)
     }
 
     // A field more, in hexadecimal, '-' for none.

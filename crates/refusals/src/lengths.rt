@@ -1,14 +1,14 @@
 // Calls with the lengths that a line gives, on bytes that follow the pattern.
-ghost use Rattle.std.specs.Prelude.{◌≤◌, length};
+ghost use Rattle.std.specs.Prelude.{◌≤◌};
 
 use differences::pattern;
 use differences::tally::{Seen, Tally, What};
 use lists::text;
+use lists::text::Spelled;
+use std::fmt;
 
-// The calls by their numbers.
-const SEALING: usize = 0;
-
-const OPENING: usize = 1;
+// The greatest length that is not refused, one byte more, and bytes that no call may touch.
+pub const ROOM: usize = 1048592;
 
 // The key, the nonce and the tag are bytes of the data too, from these places on.
 const KEY: usize = 0;
@@ -18,6 +18,29 @@ const NONCE: usize = 40;
 const TAG: usize = 64;
 
 const WRONG_TAG: u8 = 7;
+
+#[derive(Clone, Copy)]
+pub enum Call {
+    Sealing,
+    Opening,
+}
+
+impl fmt::Display for Call {
+    fn fmt<W: fmt::Write>(&self, f: &mut fmt::Formatter<W>) -> fmt::Result {
+        f.write_str(match self {
+            Call::Sealing => "sealing",
+            Call::Opening => "opening",
+        })
+    }
+}
+
+fn number(line: &[u8], k: usize) -> Option<usize> {
+    text::decimal(text::field(line, k))
+}
+
+fn byte(line: &[u8], k: usize) -> Option<u8> {
+    u8::try_from(number(line, k)?).ok()
+}
 
 // A suite, lengths, and the number and the rows that are wanted.
 #[derive(Clone, Copy)]
@@ -29,213 +52,156 @@ struct Attempt {
     message: usize,
     number: u8,
     rows: usize,
-    good: bool,
+    ghost fits: { message ≤ 1048592 },
 }
 
-fn number(line: &[u8], k: usize) -> usize {
-    let n = text::decimal(text::field(line, k));
-    n.value
-}
-
-// Whether the first so many fields after the word are numbers.
-fn are_numbers(line: &[u8], count: usize) -> bool
-    requires { count ≤ 8 }
-{
-    for k in 0..count {
-        let n = text::decimal(text::field(line, k + 1));
-        if !n.good {
-            return false;
+impl Attempt {
+    // Suite and lengths are fields 1 to 5; the wanted number and rows stand at `wanted`, and nothing after `fields` fields. None where the
+    // message has no room.
+    fn read(line: &[u8], wanted: usize, fields: usize) -> Option<Attempt>
+        requires { wanted ≤ 7 }
+    {
+        let message = number(line, 5)?;
+        if message > ROOM || !text::ends(line, fields) {
+            return None;
         }
+        Some(Attempt {
+            suite: byte(line, 1)?,
+            key: number(line, 2)?,
+            nonce: number(line, 3)?,
+            data: number(line, 4)?,
+            message,
+            number: byte(line, wanted)?,
+            rows: number(line, wanted + 1)?,
+        })
     }
-    true
 }
 
-fn byte(n: usize) -> u8 {
-    (n % 256) as u8
+// The tag that a field spells.
+fn tag_of(field: &[u8]) -> Option<[u8; 16]> {
+    let spelled = Spelled::nothing().with_field(field)?;
+    if spelled.length != 16 {
+        return None;
+    }
+    spelled.bytes.first_chunk().copied()
 }
 
-// Suite and lengths are fields 1 to 5; the wanted number and rows stand at `wanted`, and every field to there is a number.
-fn attempt_of(line: &[u8], wanted: usize) -> Attempt
-    requires { wanted ≤ 7 }
-{
-    let suite = number(line, 1);
-    let refusal = number(line, wanted);
-    Attempt {
-        suite: byte(suite),
-        key: number(line, 2),
-        nonce: number(line, 3),
-        data: number(line, 4),
-        message: number(line, 5),
-        number: byte(refusal),
-        rows: number(line, wanted + 1),
-        good: are_numbers(line, wanted + 1) && suite < 256 && refusal < 256,
-    }
+// The data, which no call may change, and the buffer.
+#[derive(Drop)]
+pub struct Rooms<'a> {
+    pub data: &'a [u8; ROOM],
+    pub buffer: &'a mut [u8; ROOM],
 }
 
 // So many bytes from a place on; none where there are not so many.
 fn taken(s: &[u8], from: usize, n: usize) -> &[u8] {
-    if from <= s.len() {
-        if n <= s.len() - from {
-            return &s[from..from + n];
+    s.get(from..from.saturating_add(n)).unwrap_or(&[])
+}
+
+impl Rooms<'_> {
+    fn sealed(&mut self, a: Attempt, tag: [u8; 16]) -> Seen {
+        let data = self.data;
+        let buffer = &mut *self.buffer;
+        let answer = deoxys::seal(
+            a.suite,
+            taken(data, KEY, a.key),
+            taken(data, NONCE, a.nonce),
+            taken(data, 0, a.data),
+            &mut buffer[..a.message],
+        );
+        Seen {
+            number: answer.number,
+            rows: answer.rows,
+            tag: answer.tag == tag,
+            buffer: pattern::stayed(buffer, a.message, pattern::BUFFER),
+            inputs: pattern::stayed(data, 0, pattern::DATA),
         }
     }
-    &s[..0]
-}
 
-fn seal(a: Attempt, data: &[u8], buffer: &mut [u8]) -> deoxys::Sealed {
-    let key = taken(data, KEY, a.key);
-    let nonce = taken(data, NONCE, a.nonce);
-    deoxys::seal(a.suite, key, nonce, taken(data, 0, a.data), buffer)
-}
-
-fn open(a: Attempt, tag: &[u8], data: &[u8], buffer: &mut [u8]) -> deoxys::Opened {
-    let key = taken(data, KEY, a.key);
-    let nonce = taken(data, NONCE, a.nonce);
-    deoxys::open(a.suite, key, nonce, taken(data, 0, a.data), buffer, tag)
-}
-
-fn sealed(a: Attempt, wanted: &[u8], data: &[u8], buffer: &mut [u8]) -> Seen
-    requires { a.message ≤ length buffer.old }
-{
-    let m = a.message;
-    let answer = seal(a, data, &mut buffer[0..m]);
-    let tag = answer.tag;
-    Seen {
-        number: answer.number,
-        rows: answer.rows,
-        tag: check::same(&tag, wanted),
-        buffer: pattern::stayed(buffer, m, pattern::BUFFER),
-        inputs: pattern::stayed(data, 0, pattern::DATA),
+    fn opened(&mut self, a: Attempt, tag: &[u8]) -> Seen {
+        let data = self.data;
+        let buffer = &mut *self.buffer;
+        let answer = deoxys::open(
+            a.suite,
+            taken(data, KEY, a.key),
+            taken(data, NONCE, a.nonce),
+            taken(data, 0, a.data),
+            &mut buffer[..a.message],
+            tag,
+        );
+        Seen {
+            number: answer.number,
+            rows: answer.rows,
+            tag: true,
+            buffer: pattern::stayed(buffer, a.message, pattern::BUFFER),
+            inputs: pattern::stayed(data, 0, pattern::DATA),
+        }
     }
-}
 
-fn opened(a: Attempt, tag: &[u8], data: &[u8], buffer: &mut [u8]) -> Seen
-    requires { a.message ≤ length buffer.old }
-{
-    let m = a.message;
-    let answer = open(a, tag, data, &mut buffer[0..m]);
-    Seen {
-        number: answer.number,
-        rows: answer.rows,
-        tag: true,
-        buffer: pattern::stayed(buffer, m, pattern::BUFFER),
-        inputs: pattern::stayed(data, 0, pattern::DATA),
+    fn refused_sealing(&mut self, a: Attempt) -> Option<What> {
+        pattern::fill(self.buffer, pattern::BUFFER);
+        let mut seen = self.sealed(a, [0u8; 16]);
+        seen.buffer = pattern::stayed(self.buffer, 0, pattern::BUFFER);
+        seen.differs(a.number, a.rows)
     }
-}
 
-fn refused_sealing(a: Attempt, data: &[u8], buffer: &mut [u8]) -> What
-    requires { a.message ≤ length buffer.old }
-{
-    pattern::fill(buffer, pattern::BUFFER);
-    let mut seen = sealed(a, &[0u8; 16], data, buffer);
-    seen.buffer = pattern::stayed(buffer, 0, pattern::BUFFER);
-    seen.differs(a.number, a.rows)
-}
+    // A wrong tag leaves zeros, every other refusal the buffer as it was.
+    fn refused_opening(&mut self, a: Attempt, tag: &[u8]) -> Option<What> {
+        pattern::fill(self.buffer, pattern::BUFFER);
+        let mut seen = self.opened(a, tag);
+        if a.number == WRONG_TAG {
+            seen.buffer = seen.buffer && pattern::zeros(&self.buffer[..a.message]);
+        } else {
+            seen.buffer = pattern::stayed(self.buffer, 0, pattern::BUFFER);
+        }
+        seen.differs(a.number, a.rows)
+    }
 
-// A wrong tag leaves zeros, every other refusal the buffer as it was.
-fn refused_opening(a: Attempt, tag: &[u8], data: &[u8], buffer: &mut [u8]) -> What
-    requires { a.message ≤ length buffer.old }
-{
-    pattern::fill(buffer, pattern::BUFFER);
-    let mut seen = opened(a, tag, data, buffer);
-    let m = a.message;
-    if a.number == WRONG_TAG {
-        seen.buffer = seen.buffer && pattern::zeros(&buffer[0..m]);
-    } else {
-        seen.buffer = pattern::stayed(buffer, 0, pattern::BUFFER);
+    fn limited_sealing(&mut self, a: Attempt, sum: usize, tag: [u8; 16]) -> Option<What> {
+        pattern::fill(self.buffer, pattern::BUFFER);
+        let mut seen = self.sealed(a, tag);
+        seen.buffer = seen.buffer && pattern::checksum(&self.buffer[..a.message]) == sum;
+        seen.differs(a.number, a.rows)
     }
-    seen.differs(a.number, a.rows)
-}
 
-// A line `seal SUITE KEY NONCE DATA MESSAGE NUMBER ROWS`.
-fn seal_line(text: &[u8], line: usize, tally: Tally, data: &[u8], buffer: &mut [u8]) -> Tally {
-    let a = attempt_of(text, 6);
-    if !a.good || !text::ends(text, 8) {
-        return tally.with_bad_line(line);
+    // What sealing left in the buffer is opened, or refused with the same number.
+    fn limited_opening(&mut self, a: Attempt, tag: [u8; 16]) -> Option<What> {
+        let mut seen = self.opened(a, &tag);
+        seen.buffer = pattern::stayed(self.buffer, 0, pattern::BUFFER);
+        seen.differs(a.number, a.rows)
     }
-    if a.message > buffer.len() {
-        return tally.with_bad_line(line);
-    }
-    let what = refused_sealing(a, data, buffer);
-    tally.with_call(line, SEALING, what)
-}
 
-// A line `open SUITE KEY NONCE DATA CIPHERTEXT TAG NUMBER ROWS`.
-fn open_line(text: &[u8], line: usize, tally: Tally, data: &[u8], buffer: &mut [u8]) -> Tally {
-    let a = attempt_of(text, 7);
-    if !a.good || !text::ends(text, 9) {
-        return tally.with_bad_line(line);
+    // A line `seal SUITE KEY NONCE DATA MESSAGE NUMBER ROWS`.
+    fn seal_line(&mut self, text: &[u8], line: usize, tally: Tally<Call>) -> Option<Tally<Call>> {
+        let a = Attempt::read(text, 6, 8)?;
+        Some(tally.with_call(line, Call::Sealing, self.refused_sealing(a)))
     }
-    if a.message > buffer.len() {
-        return tally.with_bad_line(line);
-    }
-    let what = refused_opening(a, taken(data, TAG, number(text, 6)), data, buffer);
-    tally.with_call(line, OPENING, what)
-}
 
-fn limited_sealing(a: Attempt, sum: usize, tag: &[u8], data: &[u8], buffer: &mut [u8]) -> What
-    requires { a.message ≤ length buffer.old }
-{
-    pattern::fill(buffer, pattern::BUFFER);
-    let mut seen = sealed(a, tag, data, buffer);
-    let m = a.message;
-    seen.buffer = seen.buffer && pattern::checksum(&buffer[0..m]) == sum;
-    seen.differs(a.number, a.rows)
-}
+    // A line `open SUITE KEY NONCE DATA CIPHERTEXT TAG NUMBER ROWS`.
+    fn open_line(&mut self, text: &[u8], line: usize, tally: Tally<Call>) -> Option<Tally<Call>> {
+        let a = Attempt::read(text, 7, 9)?;
+        let data = self.data;
+        let tag = taken(data, TAG, number(text, 6)?);
+        Some(tally.with_call(line, Call::Opening, self.refused_opening(a, tag)))
+    }
 
-// What sealing left in the buffer is opened, or refused with the same number.
-fn limited_opening(a: Attempt, tag: &[u8], data: &[u8], buffer: &mut [u8]) -> What
-    requires { a.message ≤ length buffer.old }
-{
-    let mut seen = opened(a, tag, data, buffer);
-    seen.buffer = pattern::stayed(buffer, 0, pattern::BUFFER);
-    seen.differs(a.number, a.rows)
-}
+    // A line `both SUITE KEY NONCE DATA MESSAGE NUMBER ROWS SUM TAG`: sealed, and what that left opened.
+    fn both_line(&mut self, text: &[u8], line: usize, tally: Tally<Call>) -> Option<Tally<Call>> {
+        let a = Attempt::read(text, 6, 10)?;
+        let sum = number(text, 8)?;
+        let tag = tag_of(text::field(text, 9))?;
+        let t = tally.with_call(line, Call::Sealing, self.limited_sealing(a, sum, tag));
+        Some(t.with_call(line, Call::Opening, self.limited_opening(a, tag)))
+    }
 
-// Sealed, and what that left opened.
-fn both(
-    a: Attempt,
-    sum: usize,
-    tag: &[u8],
-    line: usize,
-    tally: Tally,
-    data: &[u8],
-    buffer: &mut [u8],
-) -> Tally
-    requires { a.message ≤ length buffer.old }
-{
-    let what = limited_sealing(a, sum, tag, data, buffer);
-    let t = tally.with_call(line, SEALING, what);
-    t.with_call(line, OPENING, limited_opening(a, tag, data, buffer))
-}
-
-// A line `both SUITE KEY NONCE DATA MESSAGE NUMBER ROWS SUM TAG`.
-fn both_line(text: &[u8], line: usize, tally: Tally, data: &[u8], buffer: &mut [u8]) -> Tally {
-    let a = attempt_of(text, 6);
-    let sum = text::decimal(text::field(text, 8));
-    let spelled = text::with_field(text::nothing(), text::field(text, 9));
-    let bytes = spelled.bytes;
-    let tag = taken(&bytes, 0, 16);
-    if !a.good || !sum.good || !spelled.good || spelled.length != 16 || !text::ends(text, 10) {
-        return tally.with_bad_line(line);
+    // The case on a line: its first word says what is called.
+    pub fn replayed(&mut self, text: &[u8], line: usize, tally: Tally<Call>) -> Tally<Call> {
+        let replayed = match text::field(text, 0) {
+            b"seal" => self.seal_line(text, line, tally),
+            b"open" => self.open_line(text, line, tally),
+            b"both" => self.both_line(text, line, tally),
+            _ => None,
+        };
+        replayed.unwrap_or(tally.with_bad_line(line)).with_case()
     }
-    if a.message > buffer.len() {
-        return tally.with_bad_line(line);
-    }
-    both(a, sum.value, tag, line, tally, data, buffer)
-}
-
-// The case on a line: its first word says what is called.
-pub fn replayed(text: &[u8], line: usize, tally: Tally, data: &[u8], buffer: &mut [u8]) -> Tally {
-    let word = text::field(text, 0);
-    if check::same(word, b"seal") {
-        return seal_line(text, line, tally, data, buffer);
-    }
-    if check::same(word, b"open") {
-        return open_line(text, line, tally, data, buffer);
-    }
-    if check::same(word, b"both") {
-        return both_line(text, line, tally, data, buffer);
-    }
-    tally.with_bad_line(line)
 }

@@ -18,6 +18,7 @@ fn lines<C: Copy, F: FnMut(&[u8], usize, Tally<C>) -> Tally<C>>(
     requires { F.IsAlwaysCallable replayed }
 {
     let mut tally = Tally::new();
+    // By number: `text::line` promises which line each is, and `lines_joined` of `lists` that none is left out.
     for i in 0..text::line_count(text) {
         let line = text::line(text, i);
         if text::is_case(line) {

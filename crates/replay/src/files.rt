@@ -12,6 +12,7 @@ fn filled(file: &mut impl Read, text: &mut [u8]) -> io::Result<usize>
     ensures { IfOk result (λ n. IsPrefixLen n text.new) }
 {
     let mut done = 0;
+    // A count: a reader says how many bytes it gave, and std's readers of a whole file allocate.
     while done < text.len() {
         let n = file.read(&mut text[done..])?;
         if n == 0 {
@@ -23,7 +24,7 @@ fn filled(file: &mut impl Read, text: &mut [u8]) -> io::Result<usize>
 }
 
 // The file, or none and a word on standard error where it can't be opened: std's paths are text. Where standard error can't be written, there
-// is nobody to tell.
+// is nobody to tell. The path is bytes, for `read` takes any.
 fn opened<R: Files + Eprint>(rt: &R, path: &[u8]) -> Option<R::File> {
     let Ok(path) = str::from_utf8(path) else {
         let _ = eprintln!(rt; "a list's name is no text");

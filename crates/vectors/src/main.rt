@@ -4,54 +4,16 @@
 
 mod vector;
 
-use differences::tally::Tally;
-use lists::text;
-use replay::{files, report};
+use replay::{cases, report};
 use std::io;
-use std::rt::Files;
-
-// No list is as long.
-const ROOM: usize = 65536;
-
-// The calls in the order of their numbers.
-const CALLS: &[u8] = b"sealing
-opening
-opening with a changed key
-opening with a changed nonce
-opening with a changed data
-opening with a changed ciphertext
-opening with a changed tag";
-
-// One line more, if it is a case.
-fn line(text: &[u8], number: usize, tally: Tally) -> Tally {
-    if text::is_case(text) {
-        return vector::replayed(text, number, tally).with_case();
-    }
-    tally
-}
-
-// The lines of a list, counted from one.
-fn lines(text: &[u8]) -> Tally {
-    let mut tally = Tally::new();
-    for i in 0..text::line_count(text) {
-        tally = line(text::line(text, i), i + 1, tally);
-    }
-    tally.with_a_case()
-}
-
-// Replays the list in a file and writes a line on it.
-fn list(rt: &(impl Files + Print + Eprint), name: &[u8]) -> io::Result<Tally> {
-    let mut text = [0u8; ROOM];
-    let n = files::read(rt, name, &mut text)?;
-    report::list(rt, name, CALLS, lines(&text[..n]))
-}
+use vector::replayed;
 
 // The spoilt list shows that a difference is told; it is no part of the total.
 fn main(rt: HostRuntime) -> io::Result<()> {
-    list(&rt, b"spoilt.txt")?;
-    let mut total = list(&rt, b"published.txt")?;
-    total = total.and(list(&rt, b"crate.txt")?);
-    total = total.and(list(&rt, b"lengths.txt")?);
-    report::total(&rt, total)?;
+    cases::list(&rt, b"spoilt.txt", replayed)?;
+    let published = cases::list(&rt, b"published.txt", replayed)?;
+    let answers = cases::list(&rt, b"crate.txt", replayed)?;
+    let lengths = cases::list(&rt, b"lengths.txt", replayed)?;
+    report::total(&rt, published.and(answers).and(lengths))?;
     Ok(())
 }

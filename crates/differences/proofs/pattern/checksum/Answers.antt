@@ -1,5 +1,5 @@
 -- `differences::pattern::checksum`: one byte is taken off what is left; at the end none is left.
-use Rattle.std.proofs.Common.{◌<◌, ◌≤◌, length, drop-cons, add-one, arith, rules}
+use Rattle.std.proofs.Common.{◌<◌, ◌≤◌, length, drop-cons, add-one, arith}
 use native.Mathlib.Nat.{mod-lt}
 use lib.ListN.{drop_of_length-le}
 use Rattle.differences.specs.Pattern.{checksum_from}

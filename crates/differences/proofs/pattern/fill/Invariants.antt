@@ -1,5 +1,5 @@
 -- `differences::pattern::fill`: after i stores the first i bytes are the pattern's.
-use Rattle.std.proofs.Common.{◌≡◌, ℕ, ◌<◌, get_or, length}
+use Rattle.std.proofs.Common.{◌≡◌, ℕ, ◌<◌, get_or}
 use Rattle.differences.specs.Pattern.{pattern_at}
 use Rattle.differences.proofs.pattern.fill.Given as goal
 

@@ -1,5 +1,5 @@
 -- `lists::text::decimal`: a byte that is no digit, a digit, and the end.
-use Rattle.std.proofs.Common.{◌≡◌, ◌<◌, ◌≤◌, sym, ◌∙◌, length, arith, rules}
+use Rattle.std.proofs.Common.{◌<◌, sym, ◌∙◌, length, arith, rules}
 use Rattle.lists.proofs.Spelling.{number_stops, number_goes_on, number_ends, some_digits}
 use Rattle.lists.proofs.text.decimal.Goals as goal
 
