@@ -26,7 +26,7 @@ struct Fields {
 
 // Key, nonce and data, then message, ciphertext and tag.
 #[derive(Clone, Copy)]
-struct Line {
+struct Sealing {
     suite: u8,
     inputs: Fields,
     texts: Fields,
@@ -35,7 +35,7 @@ struct Line {
 
 // The bytes between two places, none where these are too many or not there.
 fn part(s: &[u8], from: usize, to: usize) -> &[u8]
-    ensures { length result.now ≤ 96 }
+    ensures { length result.now ≤ LONGEST }
 {
     match s.get(from..to) {
         Some(part) if part.len() <= LONGEST => part,
@@ -45,7 +45,7 @@ fn part(s: &[u8], from: usize, to: usize) -> &[u8]
 
 // A room with a text, and guards around it.
 fn laid_out(text: &[u8]) -> [u8; ROOM]
-    requires { length text.now ≤ 96 }
+    requires { length text.now ≤ LONGEST }
 {
     let mut room = [GUARD; ROOM];
     room[BEFORE..BEFORE + text.len()].copy_from_slice(text);
@@ -67,13 +67,13 @@ impl Fields {
     }
 
     fn first(&self) -> &[u8]
-        ensures { length result.now ≤ 96 }
+        ensures { length result.now ≤ LONGEST }
     {
         part(&self.bytes, 0, self.one)
     }
 
     fn second(&self) -> &[u8]
-        ensures { length result.now ≤ 96 }
+        ensures { length result.now ≤ LONGEST }
     {
         part(&self.bytes, self.one, self.two)
     }
@@ -83,10 +83,10 @@ impl Fields {
     }
 }
 
-impl Line {
-    fn read(line: &[u8]) -> Option<Line> {
+impl Sealing {
+    fn read(line: &[u8]) -> Option<Sealing> {
         let field = |k: usize| text::field(line, k);
-        Some(Line {
+        Some(Sealing {
             suite: numbers::byte_at(line, 1)?,
             inputs: Fields::read([field(2), field(3), field(4)])?,
             texts: Fields::read([field(5), field(6), field(7)])?,
@@ -94,38 +94,31 @@ impl Line {
         })
     }
 
-    // Whether the script takes the whole message, the ciphertext is as long, and the tag has its bytes.
+    // Whether the script takes the whole message, and the ciphertext is as long.
     fn fits(&self, taken: usize) -> bool {
-        let texts = &self.texts;
-        taken <= LONGEST
-            && texts.one == taken
-            && texts.two == 2 * taken
-            && texts.three == 2 * taken + 16
+        taken <= LONGEST && self.texts.one == taken && self.texts.two == 2 * taken
     }
 
     fn begun(&self, line: usize, tally: Tally<Call>) -> Run {
         let inputs = self.inputs;
-        let state = pieces::begin(
-            self.suite,
-            inputs.first(),
-            inputs.second(),
-            inputs.third(),
-        );
+        let state = pieces::begin(self.suite, inputs.first(), inputs.second(), inputs.third());
         let kept = inputs.bytes == self.inputs.bytes;
         Run::begun(state, 0, kept, line, tally)
     }
 
-    fn replayed(&self, script: &Script, line: usize, tally: Tally<Call>) -> Tally<Call> {
+    // None where the tag is not sixteen bytes.
+    fn replayed(&self, script: &Script, line: usize, tally: Tally<Call>) -> Option<Tally<Call>> {
+        let tag = self.texts.third().try_into().ok()?;
         let plain = laid_out(self.texts.first());
         let mut room = plain;
         let case = Case {
             line,
             plain: &plain,
             sealed: &laid_out(self.texts.second()),
-            tag: self.texts.third().try_into().unwrap_or([0; 16]),
+            tag,
             rows: self.rows,
         };
-        case.replayed(script, self.begun(line, tally), &mut room)
+        Some(case.replayed(script, self.begun(line, tally), &mut room))
     }
 }
 
@@ -136,7 +129,9 @@ pub fn replayed(
     line: usize,
     tally: Tally<Call>,
 ) -> Option<Tally<Call>> {
-    let read = Line::read(text)?;
-    read.fits(script.taken)
-        .then(|| read.replayed(script, line, tally))
+    let sealing = Sealing::read(text)?;
+    if !sealing.fits(script.taken) {
+        return None;
+    }
+    sealing.replayed(script, line, tally)
 }

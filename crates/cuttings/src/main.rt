@@ -20,7 +20,7 @@ fn scripts<F: Fn(&[u8], &Script, usize, Tally<Call>) -> Option<Tally<Call>>>(
     text: &[u8],
     first: usize,
     line: usize,
-    tally: Tally<Call>,
+    mut tally: Tally<Call>,
     replayed: F,
 ) -> Tally<Call>
     requires { F.IsAlwaysCallable replayed }
@@ -28,13 +28,11 @@ fn scripts<F: Fn(&[u8], &Script, usize, Tally<Call>) -> Option<Tally<Call>>>(
     if text::ends(text, first) {
         return tally.with_bad_line(line).with_case();
     }
-    let mut tally = tally;
     for field in text.split(|byte| *byte == b' ').skip(first) {
-        let after = match Script::read(field) {
-            Some(script) => replayed(text, &script, line, tally),
-            None => None,
-        };
-        tally = after.unwrap_or(tally.with_bad_line(line)).with_case();
+        tally = Script::read(field)
+            .and_then(|script| replayed(text, &script, line, tally))
+            .unwrap_or(tally.with_bad_line(line))
+            .with_case();
     }
     tally
 }

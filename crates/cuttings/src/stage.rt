@@ -1,6 +1,6 @@
 // Lines `stage SUITE KEY NONCE DATA NUMBER SCRIPT..`: lengths on bytes that follow the pattern, and the number of begin. The other answers are
 // those of the single call over the bytes that are to be taken.
-ghost use Rattle.std.specs.Prelude.{◌≤◌};
+ghost use Rattle.std.specs.Prelude.{◌+◌, ◌≤◌};
 
 use crate::numbers;
 use crate::script::Script;
@@ -30,7 +30,7 @@ fn part(s: &[u8], from: usize, n: usize) -> &[u8] {
     s.get(from..from.saturating_add(n)).unwrap_or(&[])
 }
 
-// A function of its own: the check of whoever makes a room unfolds it wherever it is lent as a slice.
+// A function of its own: tried where the room is made, its proof unfolds the million bytes and doesn't close.
 fn fill(room: &mut [u8; ROOM]) {
     pattern::fill(room, pattern::BUFFER);
 }
@@ -46,19 +46,26 @@ impl Attempt {
         })
     }
 
+    // Key, nonce and data.
+    fn inputs<'a>(&self, source: &'a [u8]) -> [&'a [u8]; 3] {
+        [
+            part(source, KEY, self.key),
+            part(source, NONCE, self.nonce),
+            part(source, 0, self.data),
+        ]
+    }
+
     fn begun(&self, line: usize, tally: Tally<Call>, source: &[u8; ROOM]) -> Run {
-        let key = part(source, KEY, self.key);
-        let nonce = part(source, NONCE, self.nonce);
-        let state = pieces::begin(self.suite, key, nonce, part(source, 0, self.data));
+        let [key, nonce, data] = self.inputs(source);
+        let state = pieces::begin(self.suite, key, nonce, data);
         let inputs = pattern::stayed(source, 0, pattern::BUFFER);
         Run::begun(state, self.number, inputs, line, tally)
     }
 
     // The single call.
     fn sealed(&self, source: &[u8], message: &mut [u8]) -> deoxys::Sealed {
-        let key = part(source, KEY, self.key);
-        let nonce = part(source, NONCE, self.nonce);
-        deoxys::seal(self.suite, key, nonce, part(source, 0, self.data), message)
+        let [key, nonce, data] = self.inputs(source);
+        deoxys::seal(self.suite, key, nonce, data, message)
     }
 
     // The single call over the bytes that the script takes leaves the room as it is in the end.
@@ -71,7 +78,7 @@ impl Attempt {
         sealed: &mut [u8; ROOM],
         room: &mut [u8; ROOM],
     ) -> Tally<Call>
-        requires { script.now.taken ≤ 1049584 }
+        requires { BEFORE + script.now.taken ≤ ROOM }
     {
         let answer = self.sealed(plain, &mut sealed[BEFORE..BEFORE + script.taken]);
         let tag = answer.tag;
@@ -86,7 +93,7 @@ impl Attempt {
     }
 
     fn replayed(&self, script: &Script, line: usize, tally: Tally<Call>) -> Tally<Call>
-        requires { script.now.taken ≤ 1049584 }
+        requires { BEFORE + script.now.taken ≤ ROOM }
     {
         let mut plain = [0u8; ROOM];
         fill(&mut plain);

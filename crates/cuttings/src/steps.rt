@@ -1,6 +1,6 @@
 // The steps of a script, one after the other on the state that the one before handed back, and each compared.
 use crate::script::{Action, Script, Step};
-use differences::tally::{Seen, Tally, What};
+use differences::tally::{Seen, Tally};
 use pieces::Pieces;
 use std::fmt;
 
@@ -141,8 +141,7 @@ impl Case<'_> {
     }
 
     // Every step of a script. The room holds the message as `plain` has it.
-    pub fn replayed(&self, script: &Script, begun: Run, room: &mut [u8]) -> Tally<Call> {
-        let mut run = begun;
+    pub fn replayed(&self, script: &Script, mut run: Run, room: &mut [u8]) -> Tally<Call> {
         for step in script.steps.iter().flatten() {
             run = self.step(run, *step, room);
         }

@@ -60,7 +60,7 @@ pub fn bundle(line: &[u8], bytes: &[u8], _place: usize) -> Option<What> {
 pub fn replayed<F: Fn(&[u8], &[u8], usize) -> Option<What>>(
     text: &[u8],
     line: usize,
-    tally: Tally<Call>,
+    mut tally: Tally<Call>,
     call: Call,
     differs: F,
 ) -> Option<Tally<Call>>
@@ -68,7 +68,6 @@ pub fn replayed<F: Fn(&[u8], &[u8], usize) -> Option<What>>(
 {
     let mut room = [0u8; ROOM];
     let case = Case::read(text, &mut room)?;
-    let mut tally = tally;
     for n in case.from..=case.bytes.len() {
         let what = differs(text, &case.bytes[..n], case.place);
         tally = tally.with_call(line, call, what);

@@ -4,7 +4,7 @@ use lists::text;
 use lists::text::Spelled;
 
 // The number that a field spells in decimal, or by the word for the greatest.
-pub fn number(field: &[u8]) -> Option<usize> {
+fn number(field: &[u8]) -> Option<usize> {
     match field {
         b"max" => Some(usize::MAX),
         _ => text::decimal(field),

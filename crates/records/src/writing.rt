@@ -2,7 +2,7 @@
 // written into it. A line `data` has the same fields, of which row and note are handed over.
 use crate::{Call, answers, spelling};
 use differences::pattern;
-use differences::tally::{Tally, What};
+use differences::tally::Tally;
 use lists::text;
 use record::writer::Written;
 
@@ -66,26 +66,7 @@ fn lay_wanted(line: &[u8], room: &mut [u8]) -> Option<usize> {
     spelling::laid(text::field(line, 8), room, BEFORE)
 }
 
-// Writes into the room, and compares what was answered.
-fn compared<F: Fn(&Parts, &mut [u8]) -> Written>(
-    line: &[u8],
-    room: &mut [u8],
-    wanted: &[u8],
-    write: F,
-) -> Option<Option<What>>
-    requires { F.IsAlwaysCallable write }
-{
-    let mut texts = [0u8; ROOM];
-    let parts = Parts::read(line, &mut texts)?;
-    let n = spelling::number_at(line, 7)?;
-    pattern::fill(room, pattern::BUFFER);
-    let destination = room.get_mut(BEFORE..)?.get_mut(..n)?;
-    let written = write(&parts, destination);
-    let given = [usize::from(written.number), written.length];
-    Some(answers::differ(line, FIRST, &given, &*room == wanted))
-}
-
-// The call on a line; none where the line is no case.
+// None where the line is no case.
 pub fn replayed<F: Fn(&Parts, &mut [u8]) -> Written>(
     text: &[u8],
     line: usize,
@@ -95,9 +76,15 @@ pub fn replayed<F: Fn(&Parts, &mut [u8]) -> Written>(
 ) -> Option<Tally<Call>>
     requires { F.IsAlwaysCallable write }
 {
+    let mut texts = [0u8; ROOM];
+    let parts = Parts::read(text, &mut texts)?;
     let mut wanted = [0u8; ROOM];
     lay_wanted(text, &mut wanted)?;
     let mut room = [0u8; ROOM];
-    let what = compared(text, &mut room, &wanted, write)?;
+    pattern::fill(&mut room, pattern::BUFFER);
+    let n = spelling::number_at(text, 7)?;
+    let written = write(&parts, room.get_mut(BEFORE..)?.get_mut(..n)?);
+    let given = [usize::from(written.number), written.length];
+    let what = answers::differ(text, FIRST, &given, room == wanted);
     Some(tally.with_call(line, call, what))
 }
