@@ -8,10 +8,7 @@ use std::rt::Env;
 pub fn argument(rt: &impl Env, i: usize, space: &mut [u8]) -> usize
     ensures { IsPrefixLen result space.new }
 {
-    match rt.arg(i, space) {
-        Ok(length) => length,
-        Err(_) => 0,
-    }
+    rt.arg(i, space).unwrap_or(0)
 }
 
 fn is_given(rt: &impl Env, i: usize) -> bool {

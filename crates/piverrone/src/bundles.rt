@@ -17,7 +17,7 @@ fn tell_record(
     count: usize,
     found: Record,
     at: usize,
-) -> bool
+) -> Option<()>
     requires { ReadAllows bytes.now at found }
 {
     let from = found.note;
@@ -26,16 +26,14 @@ fn tell_record(
 }
 
 // A line for each record, and their number.
-fn tell_records(rt: &(impl Print + Eprint), bytes: &[u8], records: usize) {
+fn tell_records(rt: &(impl Print + Eprint), bytes: &[u8], records: usize) -> Option<()> {
     let mut at = 0;
     for i in 0..records {
         let found = reader::read(bytes, at);
-        if !tell_record(rt, bytes, i + 1, found, at) {
-            return;
-        }
-        at = at + found.length;
+        tell_record(rt, bytes, i + 1, found, at)?;
+        at += found.length;
     }
-    words::done(rt, "records: ", records);
+    words::done(rt, "records: ", records)
 }
 
 // Tells the first record that can't be read, or what comes after the last one allowed.
@@ -47,24 +45,20 @@ fn tell_refusal(rt: &impl Eprint, bytes: &[u8], number: u8) {
             words::refused_at(rt, number, i + 1, at);
             return;
         }
-        at = at + found.length;
+        at += found.length;
     }
     words::refused_at(rt, number, reader::MOST_RECORDS + 1, at);
 }
 
-fn answer(rt: &(impl Print + Eprint), bytes: &[u8]) {
+// Lists the file that argument i, FILE, names.
+pub fn list_named(rt: &(impl Env + Files + Print + Eprint), i: usize) -> Option<()> {
+    let mut space = [0u8; SPACE];
+    let end = files::read_named(rt, i, "FILE", &mut space)?;
+    let bytes = &space[..end];
     let bundle = reader::read_bundle(bytes);
     if bundle.number != 0 {
         tell_refusal(rt, bytes, bundle.number);
-    } else {
-        tell_records(rt, bytes, bundle.records);
+        return None;
     }
-}
-
-// Lists the file that argument i, FILE, names.
-pub fn list_named(rt: &(impl Env + Files + Print + Eprint), i: usize) {
-    let mut space = [0u8; SPACE];
-    if let Some(end) = files::read_named(rt, i, "FILE", &mut space) {
-        answer(rt, &space[..end]);
-    }
+    tell_records(rt, bytes, bundle.records)
 }

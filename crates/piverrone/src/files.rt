@@ -189,9 +189,7 @@ fn created<R: Files + Eprint>(rt: &R, path: &str) -> Option<R::File> {
 fn created_beside<R: Files + Eprint>(rt: &R, path: &str, beside: &str) -> Option<R::File>
     requires { length path.now < 4096 }
 {
-    if !places::is_free(rt, path) {
-        return None;
-    }
+    places::free(rt, path)?;
     created(rt, beside)
 }
 
@@ -214,36 +212,58 @@ pub fn begin_named<'a, R: Env + Files + Eprint>(
 }
 
 // Writes at the file's end, or tells what failed.
-pub fn write_to<F: Write>(rt: &impl Eprint, out: &mut Out<'_, F>, part: &[u8]) -> bool {
-    words::or_tell(rt, out.beside, out.file.write_all(part)).is_some()
+pub fn write_to<F: Write>(rt: &impl Eprint, out: &mut Out<'_, F>, part: &[u8]) -> Option<()> {
+    words::or_tell(rt, out.beside, out.file.write_all(part))
 }
 
-// Forces what is whole to the device, and closes.
-fn is_kept<F: OpenFile + Drop>(rt: &impl Eprint, file: F, is_whole: bool, beside: &str) -> bool {
-    is_whole && words::or_tell(rt, beside, file.sync_all()).is_some()
-}
-
-fn is_renamed(rt: &(impl Files + Eprint), beside: &str, path: &str) -> bool {
-    words::or_tell(rt, path, fs::rename(rt, beside, path)).is_some()
+// Forces what is whole to the device, closes, and puts it in OUT's place.
+fn put_in_place<R: Files + Eprint, T: Drop>(
+    rt: &R,
+    out: Out<'_, R::File>,
+    whole: Option<T>,
+) -> Option<T> {
+    let Out { file, path, beside } = out;
+    let value = whole?;
+    words::or_tell(rt, beside, file.sync_all())?;
+    drop(file);
+    words::or_tell(rt, path, fs::rename(rt, beside, path))?;
+    Some(value)
 }
 
 // Puts what is whole in OUT's place. Where it is not, or that fails, which is told, the file beside OUT is removed.
-pub fn end<R: Files + Eprint>(rt: &R, out: Out<'_, R::File>, is_whole: bool) -> bool {
-    let Out { file, path, beside } = out;
-    let is_put = is_kept(rt, file, is_whole, beside) && is_renamed(rt, beside, path);
-    if !is_put {
+pub fn end<R: Files + Eprint, T: Drop>(
+    rt: &R,
+    out: Out<'_, R::File>,
+    whole: Option<T>,
+) -> Option<T> {
+    let beside = out.beside;
+    let put = put_in_place(rt, out, whole);
+    if put.is_none() {
         let _ = fs::remove_file(rt, beside);
     }
-    is_put
+    put
+}
+
+fn write_both<F: Write>(
+    rt: &impl Eprint,
+    out: &mut Out<'_, F>,
+    body: &[u8],
+    tail: &[u8],
+) -> Option<()> {
+    write_to(rt, out, body)?;
+    write_to(rt, out, tail)
 }
 
 // Writes the file that argument i, OUT, names, or tells what failed.
-pub fn write_named<R: Env + Files + Eprint>(rt: &R, i: usize, body: &[u8], tail: &[u8]) -> bool {
+pub fn write_named<R: Env + Files + Eprint>(
+    rt: &R,
+    i: usize,
+    body: &[u8],
+    tail: &[u8],
+) -> Option<()> {
     let mut space = [0u8; OUT_SPACE];
     let mut part_space = [0u8; PART_SPACE];
-    let Some(mut out) = begin_named(rt, i, &mut space, &mut part_space) else {
-        return false;
-    };
-    let is_whole = write_to(rt, &mut out, body) && write_to(rt, &mut out, tail);
-    end(rt, out, is_whole)
+    let mut out = begin_named(rt, i, &mut space, &mut part_space)?;
+    let whole = write_both(rt, &mut out, body, tail);
+    end(rt, out, whole)
 }

@@ -9,12 +9,16 @@ mod arguments;
 mod bundles;
 mod by_pieces;
 mod files;
+mod inputs;
 mod numbers;
 mod places;
 mod reasons;
 mod words;
 
+use inputs::Inputs;
+use risk::{Direction, Shape};
 use std::rt::{Env, Files};
+use words::{Command, Work};
 
 // A byte more than the longest key and nonce, so that the library sees that a file is too long.
 const KEY_SPACE: usize = 33;
@@ -24,152 +28,105 @@ const NONCE_SPACE: usize = 16;
 fn main(rt: HostRuntime) {
     let mut space = [0u8; 4096];
     let n = arguments::argument(&rt, 1, &mut space);
-    let command = words::command(&space[..n]);
-    if command == words::ROWS && arguments::is_count(&rt, 5) {
-        rows(&rt);
-    } else if command == words::RECORDS && arguments::is_count(&rt, 3) {
-        bundles::list_named(&rt, 2);
-    } else if words::is_on_files(command) && arguments::is_count(&rt, 8) {
-        with_files(&rt, command);
-    } else {
-        words::usage(&rt);
+    // A None was told where it arose.
+    let _ = run(&rt, Command::named(&space[..n]));
+}
+
+fn run(rt: &(impl Env + Files + Print + Eprint), command: Option<Command>) -> Option<()> {
+    match command {
+        Some(Command::OnFiles(work)) if arguments::is_count(rt, 8) => with_files(rt, work),
+        Some(Command::Rows) if arguments::is_count(rt, 5) => rows(rt),
+        Some(Command::Records) if arguments::is_count(rt, 3) => bundles::list_named(rt, 2),
+        _ => {
+            words::usage(rt);
+            None
+        }
     }
 }
 
-// Reads the key, the nonce and the data, and goes on with what they hold.
-fn with_files(rt: &(impl Env + Files + Print + Eprint), command: u8) {
+// Reads the key, the nonce and the data, and goes on with what they hold. Each that can't be read is told.
+fn with_files(rt: &(impl Env + Files + Print + Eprint), work: Work) -> Option<()> {
     let mut key = [0u8; KEY_SPACE];
     let mut nonce = [0u8; NONCE_SPACE];
     let mut ad = files::large_space();
     let key_read = files::read_named(rt, 3, "KEYFILE", &mut key);
     let nonce_read = files::read_named(rt, 4, "NONCEFILE", &mut nonce);
     let ad_read = files::read_named(rt, 5, "DATAFILE", &mut ad);
-    let (Some(key_end), Some(nonce_end), Some(ad_end)) = (key_read, nonce_read, ad_read) else {
-        return;
+    let inputs = Inputs {
+        suite: numbers::suite_named(rt, 2),
+        key: &key[..key_read?],
+        nonce: &nonce[..nonce_read?],
+        ad: &ad[..ad_read?],
     };
-    let suite = numbers::suite_named(rt, 2);
-    work(
-        rt,
-        command,
-        suite,
-        &key[..key_end],
-        &nonce[..nonce_end],
-        &ad[..ad_end],
-    );
-}
-
-fn work(
-    rt: &(impl Env + Files + Print + Eprint),
-    command: u8,
-    suite: u8,
-    key: &[u8],
-    nonce: &[u8],
-    ad: &[u8],
-) {
-    if command == words::PIECES {
-        by_pieces::seal(rt, suite, key, nonce, ad);
-    } else if command == words::OPEN {
-        seal_or_open(rt, true, suite, key, nonce, ad);
-    } else {
-        seal_or_open(rt, false, suite, key, nonce, ad);
+    match work {
+        Work::Pieces => by_pieces::seal(rt, inputs),
+        Work::Seal => seal_or_open(rt, Direction::Sealing, inputs),
+        Work::Open => seal_or_open(rt, Direction::Opening, inputs),
     }
 }
 
 // Reads the whole text. It is called in two places: else the compiler puts its space in the frame of `pieces` too.
 fn seal_or_open(
     rt: &(impl Env + Files + Print + Eprint),
-    opening: bool,
-    suite: u8,
-    key: &[u8],
-    nonce: &[u8],
-    ad: &[u8],
-) {
+    direction: Direction,
+    inputs: Inputs<'_>,
+) -> Option<()> {
     let mut text = files::large_space();
-    let Some(end) = files::read_named(rt, 6, "IN", &mut text) else {
-        return;
-    };
-    if opening {
-        open(rt, suite, key, nonce, ad, &mut text[..end]);
-    } else {
-        seal(rt, suite, key, nonce, ad, &mut text[..end]);
+    let end = files::read_named(rt, 6, "IN", &mut text)?;
+    match direction {
+        Direction::Sealing => seal(rt, inputs, &mut text[..end]),
+        Direction::Opening => open(rt, inputs, &mut text[..end]),
     }
 }
 
 // OUT is the ciphertext and then the tag.
 fn seal(
     rt: &(impl Env + Files + Print + Eprint),
-    suite: u8,
-    key: &[u8],
-    nonce: &[u8],
-    ad: &[u8],
+    inputs: Inputs<'_>,
     text: &mut [u8],
-) {
-    let sealed = deoxys::seal(suite, key, nonce, ad, text);
-    if sealed.number != 0 {
-        words::refused(rt, sealed.number);
-        return;
-    }
-    let tag = sealed.tag;
-    if files::write_named(rt, 7, text, &tag) {
-        words::done(rt, "sealed, rows: ", sealed.rows);
-    }
+) -> Option<()> {
+    let sealed = inputs.seal(text);
+    words::accepted(rt, sealed.number)?;
+    files::write_named(rt, 7, text, &sealed.tag)?;
+    words::done(rt, "sealed, rows: ", sealed.rows)
 }
 
 // OUT is the message.
 fn open(
     rt: &(impl Env + Files + Print + Eprint),
-    suite: u8,
-    key: &[u8],
-    nonce: &[u8],
-    ad: &[u8],
+    inputs: Inputs<'_>,
     text: &mut [u8],
-) {
+) -> Option<()> {
     let at = parcels::tag_at(text.len());
-    let opened = parcels::open(suite, key, nonce, ad, text);
-    if opened.number != 0 {
-        words::refused(rt, opened.number);
-        return;
-    }
-    if files::write_named(rt, 7, &text[..at], b"") {
-        words::done(rt, "opened, rows: ", opened.rows);
-    }
-}
-
-fn label(opening: bool, suite: u8, ad: usize, message: usize, i: usize) -> risk::Label {
-    if opening {
-        return risk::opening_row(suite, ad, message, i);
-    }
-    risk::row(suite, ad, message, i)
+    let opened = inputs.open(text);
+    words::accepted(rt, opened.number)?;
+    files::write_named(rt, 7, &text[..at], b"")?;
+    words::done(rt, "opened, rows: ", opened.rows)
 }
 
 // A heading, a line for each block cipher call, and their number, which is the same both ways.
-fn table(rt: &(impl Print + Eprint), opening: bool, suite: u8, ad: usize, message: usize) -> bool {
-    if !words::heading(rt, opening) {
-        return false;
-    }
-    let n = risk::rows(suite, ad, message);
+fn table(rt: &(impl Print + Eprint), direction: Direction, shape: Shape) -> Option<()> {
+    words::heading(rt, direction)?;
+    let n = shape.rows();
     for i in 0..n {
-        if !words::row(rt, i + 1, label(opening, suite, ad, message, i)) {
-            return false;
-        }
+        words::row(rt, i + 1, shape.row(direction, i).unwrap())?;
     }
     words::done(rt, "rows: ", n)
 }
 
-fn rows(rt: &(impl Env + Print + Eprint)) {
+fn rows(rt: &(impl Env + Print + Eprint)) -> Option<()> {
     let ad = numbers::number_named(rt, 3);
     let message = numbers::number_named(rt, 4);
-    if !ad.valid || !message.valid {
+    let (Some(ad), Some(message)) = (ad, message) else {
         words::usage(rt);
-        return;
-    }
+        return None;
+    };
     let suite = numbers::suite_named(rt, 2);
-    let number = risk::refusal(suite, ad.value, message.value);
-    if number != 0 {
-        words::refused(rt, number);
-        return;
+    let shape = Shape { suite, ad, message };
+    if let Err(refused) = shape.refusal() {
+        words::refused(rt, refused.number());
+        return None;
     }
-    if table(rt, false, suite, ad.value, message.value) {
-        table(rt, true, suite, ad.value, message.value);
-    }
+    table(rt, Direction::Sealing, shape)?;
+    table(rt, Direction::Opening, shape)
 }

@@ -1,10 +1,9 @@
 // Arguments that are numbers.
 use crate::arguments;
-use numerals::Number;
 use std::rt::Env;
 
 // Argument i as a number.
-pub fn number_named(rt: &impl Env, i: usize) -> Number {
+pub fn number_named(rt: &impl Env, i: usize) -> Option<usize> {
     let mut space = [0u8; 4096];
     let n = arguments::argument(rt, i, &mut space);
     numerals::spelt(&space[..n])
@@ -12,12 +11,7 @@ pub fn number_named(rt: &impl Env, i: usize) -> Number {
 
 // Argument i as a suite's number, or 0, which is no suite's.
 pub fn suite_named(rt: &impl Env, i: usize) -> u8 {
-    let n = number_named(rt, i);
-    let suite = n.value;
-    if n.valid {
-        if suite <= 4 {
-            return suite as u8;
-        }
-    }
-    0
+    number_named(rt, i)
+        .and_then(|n| u8::try_from(n).ok())
+        .unwrap_or(0)
 }

@@ -5,27 +5,20 @@ use crate::words;
 use std::rt::Files;
 use std::{fs, io};
 
-// Whether a new file may take the path's place: nothing stands there, or a regular file. Else it tells why not. A link is a link.
-pub fn is_free(rt: &(impl Files + Eprint), path: &str) -> bool
+// Nothing, where a new file may take the path's place: nothing stands there, or a regular file. Else None, and it tells why. A link is a link.
+pub fn free(rt: &(impl Files + Eprint), path: &str) -> Option<()>
     requires { length path.now < 4096 }
 {
     match fs::symlink_metadata(rt, path) {
-        Ok(about) => is_regular(rt, about.is_file(), path),
-        Err(error) => is_missing(rt, error, path),
+        Ok(about) if about.is_file() => Some(()),
+        Ok(_) => {
+            words::not_regular(rt, path);
+            None
+        }
+        Err(error) if error.kind() == io::ErrorKind::NotFound => Some(()),
+        Err(error) => {
+            words::failed(rt, path, error);
+            None
+        }
     }
-}
-
-fn is_regular(rt: &impl Eprint, is_file: bool, path: &str) -> bool {
-    if !is_file {
-        words::not_regular(rt, path);
-    }
-    is_file
-}
-
-fn is_missing(rt: &impl Eprint, error: io::Error, path: &str) -> bool {
-    let is_missing = error.kind() == io::ErrorKind::NotFound;
-    if !is_missing {
-        words::failed(rt, path, error);
-    }
-    is_missing
 }

@@ -17,8 +17,8 @@ struct Line {
 impl Write for Line {
     fn write_str(&mut self, text: &str) -> fmt::Result {
         for byte in text.as_bytes() {
-            if self.end < SPACE {
-                self.bytes[self.end] = *byte;
+            if let Some(place) = self.bytes.get_mut(self.end) {
+                *place = *byte;
                 self.end += 1;
             }
         }

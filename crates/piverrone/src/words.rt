@@ -1,47 +1,40 @@
 // What the program reads and writes in words: on standard output what was done, on standard error what was not.
-ghost use Rattle.std.specs.Prelude.{◌≡◌, ◌≤◌, length, None, Some, MatchResult};
+ghost use Rattle.std.specs.Prelude.{◌≡◌, ◌≤◌, length, None, Some, IfSome, MatchResult};
 
 use crate::reasons;
 use record::reader::Record;
+use risk::{Direction, Label};
 use std::io;
 
-pub const UNKNOWN: u8 = 0;
+// What is done with a suite and five files.
+#[derive(Clone, Copy)]
+pub enum Work {
+    Seal,
+    Open,
+    Pieces,
+}
 
-pub const SEAL: u8 = 1;
-
-pub const OPEN: u8 = 2;
-
-pub const ROWS: u8 = 3;
-
-pub const PIECES: u8 = 4;
-
-pub const RECORDS: u8 = 5;
+#[derive(Clone, Copy)]
+pub enum Command {
+    OnFiles(Work),
+    Rows,
+    Records,
+}
 
 // The refusal of bytes after a bundle's last record.
 const BYTES_AFTER: u8 = 15;
 
-pub fn command(word: &[u8]) -> u8 {
-    if word == b"seal".as_slice() {
-        return SEAL;
+impl Command {
+    pub fn named(word: &[u8]) -> Option<Command> {
+        match word {
+            b"seal" => Some(Command::OnFiles(Work::Seal)),
+            b"open" => Some(Command::OnFiles(Work::Open)),
+            b"pieces" => Some(Command::OnFiles(Work::Pieces)),
+            b"rows" => Some(Command::Rows),
+            b"records" => Some(Command::Records),
+            _ => None,
+        }
     }
-    if word == b"open".as_slice() {
-        return OPEN;
-    }
-    if word == b"rows".as_slice() {
-        return ROWS;
-    }
-    if word == b"pieces".as_slice() {
-        return PIECES;
-    }
-    if word == b"records".as_slice() {
-        return RECORDS;
-    }
-    UNKNOWN
-}
-
-// Whether the command takes a suite and five files.
-pub fn is_on_files(command: u8) -> bool {
-    command == SEAL || command == OPEN || command == PIECES
 }
 
 // Where standard error can't be written, there is nobody to tell.
@@ -52,21 +45,13 @@ fn warn(rt: &impl Eprint, text: &str) {
 pub fn usage(rt: &impl Eprint) {
     warn(
         rt,
-        "usage: piverrone seal SUITE KEYFILE NONCEFILE DATAFILE IN OUT\n",
-    );
-    warn(
-        rt,
-        "       piverrone open SUITE KEYFILE NONCEFILE DATAFILE IN OUT\n",
-    );
-    warn(
-        rt,
-        "       piverrone pieces SUITE KEYFILE NONCEFILE DATAFILE IN OUT\n",
-    );
-    warn(rt, "       piverrone rows SUITE DATA-BYTES MESSAGE-BYTES\n");
-    warn(rt, "       piverrone records FILE\n");
-    warn(
-        rt,
-        "OUT is written where standard output says sealed or opened. For an exit status run tools/piverrone.\n",
+        "usage: piverrone seal SUITE KEYFILE NONCEFILE DATAFILE IN OUT
+       piverrone open SUITE KEYFILE NONCEFILE DATAFILE IN OUT
+       piverrone pieces SUITE KEYFILE NONCEFILE DATAFILE IN OUT
+       piverrone rows SUITE DATA-BYTES MESSAGE-BYTES
+       piverrone records FILE
+OUT is written where standard output says sealed or opened. For an exit status run tools/piverrone.
+",
     );
 }
 
@@ -81,6 +66,17 @@ pub fn refused(rt: &impl Eprint, number: u8) {
     warn(rt, "\n");
 }
 
+// Nothing, or None where the number refuses, which is told.
+pub fn accepted(rt: &impl Eprint, number: u8) -> Option<()>
+    ensures { IfSome result (λ _. number ≡ 0) }
+{
+    if number != 0 {
+        refused(rt, number);
+        return None;
+    }
+    Some(())
+}
+
 // A refused bundle: the record that can't be read, counted from one, and the place of its first byte.
 pub fn refused_at(rt: &impl Eprint, refused: u8, record: usize, at: usize) {
     refusal(rt, refused);
@@ -91,6 +87,7 @@ pub fn refused_at(rt: &impl Eprint, refused: u8, record: usize, at: usize) {
     let _ = eprintln!(rt; " at {at}");
 }
 
+// The numbers are those of the answers in include/, which C reads.
 fn reason(number: u8) -> &'static str {
     match number {
         1 => "the suite is not 1 to 4 (by pieces: 1 or 2)",
@@ -143,40 +140,23 @@ pub fn or_tell<T>(rt: &impl Eprint, what: &str, answer: io::Result<T>) -> Option
     }
 }
 
-// Whether all was written. Where it was not, that is told.
-fn told(rt: &impl Eprint, all: io::Result<()>) -> bool {
-    or_tell(rt, "standard output", all).is_some()
+// Where not all was written, that is told.
+fn told(rt: &impl Eprint, all: io::Result<()>) -> Option<()> {
+    or_tell(rt, "standard output", all)
 }
 
 // What was done, and its number of rows or records.
-pub fn done(rt: &(impl Print + Eprint), what: &str, count: usize) -> bool {
+pub fn done(rt: &(impl Print + Eprint), what: &str, count: usize) -> Option<()> {
     told(rt, println!(rt; "{what}{count}"))
 }
 
-pub fn heading(rt: &(impl Print + Eprint), opening: bool) -> bool {
-    told(rt, rt.println(if opening { "opening" } else { "sealing" }))
-}
-
-fn kind(kind: u8) -> &'static str {
-    match kind {
-        risk::DATA => "data",
-        risk::MESSAGE => "message",
-        risk::TAG => "tag",
-        risk::KEYSTREAM => "keystream",
-        _ => "unknown",
-    }
-}
-
-fn extent(partial: bool) -> &'static str {
-    if partial { "partial" } else { "whole" }
+pub fn heading(rt: &(impl Print + Eprint), direction: Direction) -> Option<()> {
+    told(rt, println!(rt; "{direction}"))
 }
 
 // A row of a risk table, numbered from one.
-pub fn row(rt: &(impl Print + Eprint), number: usize, label: risk::Label) -> bool {
-    let kind = kind(label.kind);
-    let block = label.number;
-    let extent = extent(label.partial);
-    told(rt, println!(rt; "{number} {kind} {block} {extent}"))
+pub fn row(rt: &(impl Print + Eprint), number: usize, label: Label) -> Option<()> {
+    told(rt, println!(rt; "{number} {label}"))
 }
 
 // A note in quotes. Each of its bytes is shown by up to four.
@@ -208,7 +188,7 @@ pub fn sealed_row(
     found: Record,
     text: &[u8],
     at: usize,
-) -> bool
+) -> Option<()>
     requires { length text.now ≤ 1024 }
 {
     told(rt, parts(rt, count, found, text, at))
