@@ -24,6 +24,7 @@ pub struct Opened {
     pub rows: usize,
 }
 
+// Opening's own refusals. Numbers: each is answered in one place, and 7 with its rows, so an enum would be made and taken apart there.
 const WRONG_TAG_LENGTH: u8 = 6;
 
 const WRONG_TAG: u8 = 7;

@@ -175,11 +175,16 @@ impl Pieces {
         ensures piece_after { piece.new ≡ piece_text self piece.old }
     {
         let bytes = piece.len();
-        let before = self.checksum;
-        let sum = deoxys_i::checksum(before, piece);
-        let nonce = self.nonce;
+        let sum = deoxys_i::checksum(self.checksum, piece);
         let first = self.total / 16;
-        let count = deoxys_i::crypt_message(self.keys, &nonce, first, piece, false, self.count);
+        let count = deoxys_i::crypt_message(
+            self.keys,
+            &self.nonce,
+            first,
+            piece,
+            false,
+            self.count,
+        );
         self.checksum = sum;
         self.count = count;
         self.total += bytes;
@@ -216,12 +221,14 @@ impl Pieces {
                 rows: 0,
             };
         }
-        let nonce = self.nonce;
-        let sum = self.checksum;
-        let auth = self.auth;
-        let tagged = deoxys_i::tag(self.keys, &nonce, self.total, sum, auth, self.count);
-        let tag = tagged.tag;
-        let count = tagged.count;
+        let modes::Tagged { tag, count } = deoxys_i::tag(
+            self.keys,
+            &self.nonce,
+            self.total,
+            self.checksum,
+            self.auth,
+            self.count,
+        );
         self.stage = FINISHED;
         self.count = count;
         Finished {

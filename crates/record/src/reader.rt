@@ -132,7 +132,7 @@ fn no_bundle(number: u8) -> Bundle
     Bundle { number, records: 0 }
 }
 
-// The records one after another, to the last byte.
+// The records one after another, to the last byte. A `while`: where the next one starts is known only when this one is read.
 pub fn read_bundle(bytes: &[u8]) -> Bundle
     ensures { BundleAllows bytes.now result }
 {

@@ -59,7 +59,7 @@ fn texts_refusal(
     Ok(())
 }
 
-// The six fields one after another.
+// The six fields one after another. No struct of them: the C export hands them to `write` one by one, and only `lay` would take it apart.
 fn lay(
     suite: u8,
     row: u16,

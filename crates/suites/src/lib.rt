@@ -34,8 +34,7 @@ impl Refused {
     }
 }
 
-// A suite is a number, the form that document 01 names: an enum would be made from C's number and taken apart again at every call.
-// The length of a suite's key, and 0 for what is no suite.
+// The length of a suite's key, and 0 for what is no suite. A suite stays a number: document 01 names "a suite number and plain functions".
 pub fn key_length(suite: u8) -> usize
     ensures { result ≡ key_length suite }
 {

@@ -11,12 +11,12 @@ pub returns-in-Err : goal.returns-in-Err
 unfolding zero_block
 returns-in-Err c = rw c.in-Err.ensures.0 (finish_refused _ c.in-Err.ensures.1)
 
-pub tag-tagged-requires : goal.tag-tagged-requires
-tag-tagged-requires c =
+pub tag-requires : goal.tag-requires
+tag-requires c =
     let g = stands _ _ c.in_default.ensures in
     (few_rounds g, omega (arith, g.within.few_bytes), omega (arith, g.within.few_rows))
 
 pub returns : goal.returns
 unfolding finished
-returns c = simp c.tag-tagged.ensures
+returns c = simp c.tag.ensures
     (finish_done _ c.in_default.ensures)
