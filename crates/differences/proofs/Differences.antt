@@ -58,6 +58,15 @@ module _ {C : Type 0} (t : Tally C) where
   unfolding with_a_case
   after_all_cases e = some_cases (eqb t.cases 0) refl e
 
+  by_cases : (b : Bool) → eqb t.cases 0 ≡ b → (pick b (with_bad_line t 0) t).differ ≡ 0 → 0 < (pick b (with_bad_line t 0) t).cases
+  by_cases true p e = absurd (a_bad_line 0 e)
+  by_cases false p e = pos_of_ne-zero (eqb-false t.cases 0 p)
+
+  -- a list in which nothing differs has a case
+  pub has_a_case : (r : Tally C) → r ≡ with_a_case t → r.differ ≡ 0 → 0 < r.cases
+  unfolding with_a_case
+  has_a_case r p = rw p (by_cases (eqb t.cases 0) refl)
+
   pub after_both : (other : Tally C) → (together t other).differ ≡ 0 → (t.differ ≡ 0) × (other.differ ≡ 0)
   after_both other e = (omega arith, omega arith)
 
