@@ -33,3 +33,11 @@ within s at r e = by (take_record (drop at s)) e
     by (got c left) k =
         let f = was_read s at r e (ap (λ (x : Record). x.number) k) in
         found s at r f.content f.is f.within f.lengths.of_note
+
+-- of the note, a fact each
+module _ (s : List ℕ) (at : ℕ) (r : Record) (e : r ≡ reading s at) where
+  pub note_within : r.note + r.note_length ≤ length s
+  note_within = (within s at r e).note
+
+  pub note_short : r.note_length ≤ 1024
+  note_short = (within s at r e).short

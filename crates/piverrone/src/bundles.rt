@@ -11,6 +11,7 @@ use std::rt::{Env, Files};
 const SPACE: usize = 331009;
 
 // A line for a record that was read at a place.
+#[tactic(auto, using(crate::proofs::Records::note_within, crate::proofs::Records::note_short))]
 fn tell_record(
     rt: &(impl Print + Eprint),
     bytes: &[u8],
@@ -20,9 +21,8 @@ fn tell_record(
 ) -> Option<()>
     requires { ReadAllows bytes.now at found }
 {
-    let from = found.note;
-    let end = from + found.note_length;
-    words::sealed_row(rt, count, found, &bytes[from..end], at)
+    let end = found.note + found.note_length;
+    words::sealed_row(rt, count, found, &bytes[found.note..end], at)
 }
 
 // A line for each record, and their number.
@@ -50,15 +50,18 @@ fn tell_refusal(rt: &impl Eprint, bytes: &[u8], number: u8) {
     words::refused_at(rt, number, reader::MOST_RECORDS + 1, at);
 }
 
-// Lists the file that argument i, FILE, names.
-pub fn list_named(rt: &(impl Env + Files + Print + Eprint), i: usize) -> Option<()> {
-    let mut space = [0u8; SPACE];
-    let end = files::read_named(rt, i, "FILE", &mut space)?;
-    let bytes = &space[..end];
+fn answer(rt: &(impl Print + Eprint), bytes: &[u8]) -> Option<()> {
     let bundle = reader::read_bundle(bytes);
     if bundle.number != 0 {
         tell_refusal(rt, bytes, bundle.number);
         return None;
     }
     tell_records(rt, bytes, bundle.records)
+}
+
+// Lists the file that argument i, FILE, names.
+pub fn list_named(rt: &(impl Env + Files + Print + Eprint), i: usize) -> Option<()> {
+    let mut space = [0u8; SPACE];
+    let end = files::read_named(rt, i, "FILE", &mut space)?;
+    answer(rt, &space[..end])
 }

@@ -7,7 +7,7 @@ const SPACE: usize = 320;
 
 const NUMBER: &str = " (os error ";
 
-// As much as there is room for of what is written.
+// As much as there is room for of what is written: no heap, so an array and how far it is filled.
 #[derive(Drop)]
 struct Line {
     bytes: [u8; SPACE],
