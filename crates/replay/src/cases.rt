@@ -12,6 +12,7 @@ use std::rt::Files;
 const ROOM: usize = 65536;
 
 // The lines of a list that are cases, counted from one.
+#[tactic(auto, using(differences::proofs::Differences::has_a_case))]
 fn lines<C: Copy, F: FnMut(&[u8], usize, Tally<C>) -> Tally<C>>(
     text: &[u8],
     mut replayed: F,
