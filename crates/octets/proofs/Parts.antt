@@ -3,11 +3,11 @@
 use mathlib.Core.Path.{◌≡◌, refl, sym, ap, ◌∙◌, subst}
 use mathlib.Core.List.{List, [], ◌∷◌, ◌++◌, append_assoc, append-nil}
 use Prim.Native.Nat.{ℕ, zero, suc, ◌+◌, ◌-◌, ◌≤◌, ◌<◌}
-use native.Mathlib.Nat.{le_of_suc-le-suc, not-suc-le-zero, add-zero, sub-zero, zero-sub, suc-sub-suc}
+use native.Mathlib.Nat.{le_of_suc-le-suc, not-suc-le-zero, sub-zero, zero-sub, suc-sub-suc}
 use native.Mathlib.Numerals.{add-one}
 use native.Mathlib.Omega.{arith}
-use lib.ListN.{length, take, drop, get_or, set, replicate, length-append, length-drop, length-replicate, take-append-drop, drop_of_length-le, get_or-append}
-use lib.Seq.{take_at, drop_at, take_all, length-take-le, get_or-append-add, get_or-take, get_or-drop, set_at}
+use lib.ListN.{length, take, drop, get_or, set, replicate, length-append, length-drop, length-replicate, drop_of_length-le}
+use lib.Seq.{take_at, drop_at, take_all, length-take-le, get_or-take, get_or-drop, set_at}
 use borrow.Rule.Slice.PartMut.{put_mid}
 use Rattle.octets.specs.Octets.{Bytes, Block, table, padded}
 use Rattle.octets.proofs.Tables.{is_table, table_block}
@@ -56,9 +56,6 @@ part_block s at h p = subst Block (part-table s at h) (table_block (λ i. get_or
 -- ---- n bytes laid in at a place
 
 module _ (s b : List ℕ) (at n : ℕ) (fits : at + n ≤ length s) (lb : length b ≡ n) where
-  put : List ℕ
-  put = take at s ++ (b ++ drop (at + n) s)
-
   head_length : length (take at s ++ b) ≡ at + n
   head_length = length-append (take at s) b ∙ rw (length-take-le at s (omega arith), lb)
 
@@ -70,29 +67,6 @@ module _ (s b : List ℕ) (at n : ℕ) (fits : at + n ≤ length s) (lb : length
 
   pub put_length : length (take at s ++ (b ++ drop (at + n) s)) ≡ length s
   put_length = simp (length-append, length-drop, lb, length-take-le at s (omega arith)) (omega arith)
-
-  put_at : (i : ℕ) → i < n → get_or put (at + i) 0 ≡ get_or b i 0
-  unfolding put
-  put_at i h =
-      ap (λ (k : ℕ). get_or (take at s ++ (b ++ drop (at + n) s)) (k + i) 0) (sym (length-take-le at s (omega arith)))
-      ∙ get_or-append-add (take at s) (b ++ drop (at + n) s) i 0
-      ∙ get_or-append b (drop (at + n) s) 0 i (omega arith)
-
-  -- the loop that lays them in: before, a turn, after
-  pub put_none : s ≡ upto (take at s ++ (b ++ drop (at + n) s)) s (at + 0)
-  put_none =
-      simp (add-zero, take_at (take at s) (b ++ drop (at + n) s) at (length-take-le at s (omega arith)), take-append-drop)
-
-  pub put_turn : (l : List ℕ) (i : ℕ) → i < n → l ≡ upto (take at s ++ (b ++ drop (at + n) s)) s (at + i)
-      → set l (at + i) (get_or b i 0) ≡ upto (take at s ++ (b ++ drop (at + n) s)) s (at + (i + 1))
-  unfolding put
-  put_turn l i h e =
-      let next : at + i + 1 ≡ at + (i + 1) = omega arith in
-      upto_turn l put s (at + i) (get_or b i 0) e (rw put_length (omega arith)) (omega arith) (sym (put_at i h))
-      ∙ ap (λ (k : ℕ). upto put s k) next
-
-  pub put_end : (l : List ℕ) (i : ℕ) → i ≡ n → l ≡ upto (take at s ++ (b ++ drop (at + n) s)) s (at + i) → l ≡ take at s ++ (b ++ drop (at + n) s)
-  put_end l i e h = (rw e at h) ∙ rw put_take (append_assoc (take at s) b (drop (at + n) s))
 
 -- ---- a part of a slice that goes to its end, lent and given back
 

@@ -72,12 +72,6 @@ module _ (s : List ℕ) where
       g = subst (λ (l : List ℕ). TextsGot (nonce_length (get_or s 3 0)) l t) (rest_is s 9)
           (subst (λ (k : ℕ). TextsGot k (take (length s - 9) (drop 9 s)) t) of-suite lent)
 
-      pub record_room : 37 + m + t.note + t.cipher ≤ length s
-      record_room =
-          let h9 = h.within in
-          let w : 28 + nonce_length (get_or s 3 0) + t.note + t.cipher ≤ length s - 9 = rw (length-drop 9 s) at g.within in
-          omega (arith, h9, w, of-suite)
-
       pub record_read : (at row n₁ n₂ n₃ n₄ bytes : ℕ) → row ≡ number2 (get_or s 7 0) (get_or s 8 0) → n₁ ≡ at + 12
           → n₂ ≡ at + 15 + m → n₃ ≡ at + 18 + m + t.note → n₄ ≡ at + 21 + m + t.note + t.cipher
           → bytes ≡ 37 + m + t.note + t.cipher
