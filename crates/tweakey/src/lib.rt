@@ -44,7 +44,7 @@ fn lfsr3_byte(x: u8) -> u8
     (x >> 1) | ((x ^ (x >> 6)) << 7)
 }
 
-// Each byte replaced by what the rule gives for it.
+// Each byte replaced by what the rule gives for it. `tk.map(rule)` was tried: expanding a key took sixteen times the instructions.
 fn each_byte<F: Fn(u8) -> u8>(rule: F, tk: [u8; 16]) -> [u8; 16]
     requires { F.IsAlwaysCallable rule }
     ensures { (i : ℕ) → i < 16 → F.post rule (slice_index tk i) (slice_index result i) }
