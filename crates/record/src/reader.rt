@@ -6,7 +6,7 @@ ghost use Rattle.record.specs.Parts.{HeadRead, TextsRead, RecordRead};
 use crate::house;
 use fields::{Refused, pair, range_refusal, read_field};
 
-// A number, as NO_ROOM of the writer: each is answered in one place, and an enum about it would be made and taken apart there.
+// A number, as NO_ROOM of the writer: it is tested where the C answer is made, so an enum about it would be taken apart at once.
 const TOO_MANY: u8 = 15;
 
 pub const MOST_RECORDS: usize = 64;
