@@ -21,9 +21,6 @@ pub record Reading (text : List ℕ) (value i : ℕ) : Type 0 where
   pub digits-left : digits (drop i text) ≡ digits text
   pub value_left : min (value_after value (drop i text)) 1048577 ≡ min (value_after 0 text) 1048577
 
-pub reading_start : (text : List ℕ) → Reading text 0 0
-reading_start text = record { within = omega arith; small = omega arith; digits-left = refl; value_left = refl }
-
 module _ (text : List ℕ) (value i : ℕ) (r : Reading text value i) where
   module _ (h : i < length text) where
     next : drop i text ≡ get_or text i 0 ∷ drop (i + 1) text
