@@ -1,18 +1,19 @@
--- Lists given by a function of the place: their laws, the array that `from_fn` makes, and rules of every byte by one computed test.
+-- Lists given by a function of the place: their laws, the loop that fills one, and rules of every byte by one computed test.
 -- Assumes nothing.
 use mathlib.Core.Path.{◌≡◌, refl, sym, ap, ◌∙◌, subst}
 use mathlib.Core.Bool.{Bool, true, false}
 use mathlib.Core.Logic.{◌⊎◌, inl, inr, ⊎_elim}
 use mathlib.Core.List.{List}
 use Prim.Native.Nat.{ℕ, zero, suc, ◌+◌, ◌≤◌, ◌<◌, zero-le, suc-le-suc}
-use native.Mathlib.Nat.{add-zero, zero-add, add-suc, suc-add, le_of_suc-le-suc, not-suc-le-zero, eq-or-lt_of_le}
+use native.Mathlib.Nat.{add-zero, zero-add, add-suc, suc-add, le_of_suc-le-suc, not-suc-le-zero, le_trans, lt_irrefl, eq-or-lt_of_le}
 use native.Mathlib.Omega.{arith}
 use mir.Val.{Fits}
 use mir.Syntax.{w8}
 use lib.Bits.{bit_xor}
 use lib.Dec.{T, eqb, eqb→eq, ltb, ltb→lt, lit<}
-use lib.ListN.{length, get_or, get_or-eq_default}
-use lib.Seq.{ext_get_or}
+use lib.ListN.{length, get_or, set, length-set, get_or-eq_default}
+use lib.Seq.{ext_get_or, get_or-set_same, get_or-set_other}
+use borrow.Author.Count.{below_more}
 use denote.Param.Members.{Mut, Called}
 use Rattle.std.specs.Array.{IsFromFnResultFrom, IsFromFnResult}
 use Rattle.octets.specs.Octets.{Bytes, Block, pick, ◌⊕◌, table_from, table, each_byte}
@@ -84,6 +85,29 @@ unfolding each_byte
 each_undone f g {s} undo p =
     sym (is_table (λ i. g (get_or (each_byte f s) i 0)) 16 s p.size
     (λ k b. sym (ap g (each_at f s k b) ∙ undo (get_or s k 0) (p.bytes.at k))))
+
+-- ---- a loop that fills a list of n from the front: what holds after i stores of f 0, f 1, ..
+
+pub record Filled (f : ℕ → ℕ) (n : ℕ) (l : List ℕ) (i : ℕ) : Type 0 where
+  pub size : length l ≡ n
+  pub upto : i ≤ n
+  pub cells : (k : ℕ) → k < i → get_or l k 0 ≡ f k
+
+pub filled_none : {f : ℕ → ℕ} {n : ℕ} {l : List ℕ} → length l ≡ n → Filled f n l 0
+filled_none e = record { size = e; upto = zero-le; cells = λ k h. absurd (not-suc-le-zero h) }
+
+pub filled_more : {f : ℕ → ℕ} {n : ℕ} {l : List ℕ} {i : ℕ} (v : ℕ) → Filled f n l i → i < n → v ≡ f i → Filled f n (set l i v) (i + 1)
+filled_more {f} {n} {l} {i} v p h e = record {
+  size = length-set l i v ∙ p.size;
+  upto = omega arith;
+  cells =
+      below_more (λ (k : ℕ). get_or (set l i v) k 0 ≡ f k) i
+      (λ k b. get_or-set_other l i k v 0 (λ q. lt_irrefl i (subst (λ (m : ℕ). m < i) q b)) ∙ p.cells k b)
+      (get_or-set_same l i v 0 (subst (λ (m : ℕ). i < m) (sym p.size) h) ∙ e);
+}
+
+pub filled_all : {f : ℕ → ℕ} {n : ℕ} {l : List ℕ} {i : ℕ} → Filled f n l i → n ≤ i → l ≡ table f n
+filled_all {f} {n} {l} {i} p h = is_table f n l p.size (λ k b. p.cells k (le_trans b h))
 
 -- XOR of two blocks, by place
 pub xor_table : (s t : List ℕ) → length s ≡ 16 → length t ≡ 16 → table (λ i. bit_xor (get_or s i 0) (get_or t i 0)) 16 ≡ s ⊕ t
