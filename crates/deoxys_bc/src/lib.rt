@@ -41,7 +41,8 @@ pub fn encipher(k: Subkeys, tweak: [u8; 16], block: [u8; 16], count: Count) -> C
     let sbox = field::sbox::entries();
     let keys = tweakey::key_schedule(k, tweak);
     let mut state = octets::xor_block(block, octets::read_block(&keys, 0));
-    // The state goes through a `next`: an array right from a call into a local that is read again has no generated proof.
+    // By the round's number, since 01 has the round keys flat; and by a `next`: an array right from a call into a local that is read again has
+    // no generated proof.
     for i in 0..k.rounds {
         let key = octets::read_block(&keys, 16 * (i + 1));
         let next = aes::cipher_round(&sbox, state, key);
@@ -62,6 +63,7 @@ pub fn decipher(k: Subkeys, tweak: [u8; 16], block: [u8; 16], count: Count) -> C
     let keys = tweakey::key_schedule(k, tweak);
     let last = octets::read_block(&keys, 16 * k.rounds);
     let mut state = aes::inv_mix_columns(octets::xor_block(block, last));
+    // As in `encipher`.
     for i in (0..k.rounds).rev() {
         let key = octets::read_block(&keys, 16 * i);
         let mixed = aes::inv_mix_columns(key);

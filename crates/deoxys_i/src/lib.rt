@@ -137,7 +137,8 @@ pub fn tag(
     }
 }
 
-// The crate's `encrypt_inout` of Deoxys-I.
+// The crate's `encrypt_inout` of Deoxys-I. The bounds are clauses here, below and in Deoxys-II: a slice with an invariant would be made by
+// `deoxys` and taken apart at once.
 pub fn seal(k: Subkeys, nonce: &[u8; 8], ad: &[u8], buffer: &mut [u8]) -> Tagged
     requires { (k.rounds ≤ 16) × (length ad.now ≤ 1048576) × (length buffer.old ≤ 1048576) }
     ensures value { result ≡ answered (seal_i k nonce.now ad.now buffer.old) }

@@ -11,6 +11,7 @@ ghost use Rattle.modes.specs.Rows.{auth_rows, data_rows, absorbed};
 use deoxys_bc::Count;
 use tweakey::Subkeys;
 
+// Bytes, as a tweak has them, here and in both modes: an enum would be turned into them at once.
 const TWEAK_AD: u8 = 0x20;
 
 const TWEAK_AD_LAST: u8 = 0x60;

@@ -1,4 +1,4 @@
-// The fields of the house record: their tags in ascending order, and their limits.
+// The fields of the house record: their tags in ascending order, bytes as they stand in a record, and their limits.
 pub const SUITE: u8 = 1;
 
 pub const ROW: u8 = 2;

@@ -162,7 +162,8 @@ impl Shape {
         blocks(self.message)
     }
 
-    // Row j of a sealing without data: message, tag, keystream.
+    // Row j of a sealing without data: message, tag, keystream. That the message is allowed is a clause, here and below, and no invariant: a shape
+    // may be one that is refused.
     #[tactic(auto, using(crate::proofs::Tables::sealed_message, crate::proofs::Tables::sealed_tag, crate::proofs::Tables::sealed_keystream))]
     fn sealed_row(self, j: usize) -> Label
         requires { (self.message ≤ 1048576) × (j < length (labels self.suite 0 self.message)) }
