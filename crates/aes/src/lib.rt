@@ -11,7 +11,7 @@ ghost use Rattle.aes.specs.Round.{byte_at, shift_rows, inv_shift_rows, mix_byte,
 use std::array;
 
 // Each byte replaced by its entry of a table: SubBytes by the S-box, InvSubBytes by the inverse one.
-// `block.map` was tried, here and below: an enciphering took six times the instructions, a deciphering ten times.
+// `block.map` was tried, here and below, and misses the bar of docs/DESIGN-PASS.md: an enciphering took six times the instructions.
 fn substitute(entries: &[u8; 256], block: [u8; 16]) -> [u8; 16]
     ensures { result ≡ each_byte (λ x. get_or entries.now x 0) block }
 {
@@ -60,7 +60,7 @@ pub fn mix_columns(block: [u8; 16]) -> [u8; 16]
     let second = turn_columns(block, 1);
     let third = turn_columns(block, 2);
     let fourth = turn_columns(block, 3);
-    // By a loop: `array::from_fn` was tried. A mixing took a sixth more instructions, an opening in Deoxys-I an eighth more.
+    // By a loop: `array::from_fn` was tried, and misses the bar of docs/DESIGN-PASS.md: an opening in Deoxys-I took an eighth more instructions.
     let mut out = [0u8; 16];
     for i in 0..16 {
         out[i] = mix_byte(block[i], second[i], third[i], fourth[i]);
@@ -68,6 +68,7 @@ pub fn mix_columns(block: [u8; 16]) -> [u8; 16]
     out
 }
 
+// As `each_byte` of `tweakey`: one line in each, where a common one would be a public function of `octets` with a contract to prove for both.
 fn double_bytes(block: [u8; 16]) -> [u8; 16]
     ensures { result ≡ each_byte double block }
 {

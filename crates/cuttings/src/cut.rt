@@ -15,7 +15,7 @@ const GUARD: u8 = 0xa5;
 
 const ROOM: usize = 128;
 
-// Three fields one after the other, and where each ends.
+// Three fields one after the other in one array, since together they may not be longer, and where each ends.
 #[derive(Clone, Copy)]
 struct Fields {
     bytes: [u8; 256],
@@ -57,6 +57,7 @@ impl Fields {
         let one = Spelled::nothing().with_field(fields[0])?;
         let two = one.with_field(fields[1])?;
         let three = two.with_field(fields[2])?;
+        // A local of its own: from field to field the checker covers no array.
         let bytes = three.bytes;
         Some(Fields {
             bytes,

@@ -25,7 +25,7 @@ struct Attempt {
     number: u8,
 }
 
-// So many bytes from a place on; none where there are not so many.
+// So many bytes from a place on; none where there are not so many. A line here and in `refusals`: docs/DECISIONS.md, Replaying lists.
 fn part(s: &[u8], from: usize, n: usize) -> &[u8] {
     s.get(from..from.saturating_add(n)).unwrap_or(&[])
 }
@@ -68,7 +68,7 @@ impl Attempt {
         deoxys::seal(self.suite, key, nonce, data, message)
     }
 
-    // The single call over the bytes that the script takes leaves the room as it is in the end.
+    // The single call over the bytes that the script takes leaves the room as it is in the end. A function of its own, as `fill`.
     fn scripted(
         &self,
         script: &Script,
@@ -81,6 +81,7 @@ impl Attempt {
         requires { BEFORE + script.now.taken ≤ ROOM }
     {
         let answer = self.sealed(plain, &mut sealed[BEFORE..BEFORE + script.taken]);
+        // A local of its own: from field to field the checker covers no array.
         let tag = answer.tag;
         let case = Case {
             line,

@@ -7,7 +7,7 @@ ghost use Rattle.modes.specs.Answers.{answered};
 ghost use Rattle.suites.specs.Suites.{refusal};
 ghost use Rattle.deoxys.specs.Entry.{sealed, opened, SealAllows, OpenAllows};
 
-// What sealing answers: a number of document 01, the tag, and the block cipher calls made.
+// What sealing answers, here and below as C has it: a number of document 01, the tag, and the block cipher calls made.
 #[repr(C)]
 #[derive(Clone, Copy)]
 pub struct Sealed {

@@ -7,7 +7,7 @@ ghost use Rattle.deoxys_bc.specs.Cipher.{encipher, decipher};
 
 use tweakey::Subkeys;
 
-// The block cipher calls made so far.
+// The block cipher calls made so far. C may hand back any, so that there is room for one more is a clause, and no ghost field.
 #[repr(C)]
 #[derive(Clone, Copy, PartialEq, Eq)]
 pub struct Count {
@@ -41,8 +41,8 @@ pub fn encipher(k: Subkeys, tweak: [u8; 16], block: [u8; 16], count: Count) -> C
     let sbox = field::sbox::entries();
     let keys = tweakey::key_schedule(k, tweak);
     let mut state = octets::xor_block(block, octets::read_block(&keys, 0));
-    // By the round's number, since 01 has the round keys flat; and by a `next`: an array right from a call into a local that is read again has
-    // no generated proof.
+    // By the round's number: cut by `as_chunks` the keys would be skipped here and reversed below, which is no plainer. And by a `next`: an array
+    // right from a call into a local that is read again has no generated proof.
     for i in 0..k.rounds {
         let key = octets::read_block(&keys, 16 * (i + 1));
         let next = aes::cipher_round(&sbox, state, key);

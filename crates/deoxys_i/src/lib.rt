@@ -13,6 +13,7 @@ use deoxys_bc::{Called, Count};
 use modes::Tagged;
 use tweakey::Subkeys;
 
+// Bytes of a tweak, as in `modes`.
 const KIND_MESSAGE: u8 = 0;
 
 const KIND_MESSAGE_LAST: u8 = 4;
@@ -21,7 +22,7 @@ const KIND_TAG: u8 = 1;
 
 const KIND_TAG_LAST: u8 = 5;
 
-// A call, deciphering where it is an opening. A flag: there are two directions and two callers, and a closure or an enum only renames them.
+// A call, deciphering where it is an opening. A flag, as `direction` in the clauses here and of `crypt_message` takes a truth value.
 fn crypt_block(k: Subkeys, tweak: [u8; 16], block: [u8; 16], opening: bool, count: Count) -> Called
     requires { (k.rounds ≤ 16) × (count.rows + 1 < 2 ^ 64) }
     ensures { result ≡ record { block = (direction opening k tweak block).to; count = record { rows = count.rows + 1 } } }

@@ -13,6 +13,7 @@ use deoxys_bc::{Called, Count};
 use modes::{Tagged, Tally};
 use tweakey::Subkeys;
 
+// Bytes of a tweak, as in `modes`.
 const TWEAK_M: u8 = 0x00;
 
 const TWEAK_M_LAST: u8 = 0x40;
@@ -30,7 +31,7 @@ fn authenticate_message(k: Subkeys, message: &[u8], tally: Tally) -> Tally
     modes::authenticate(k, TWEAK_M, TWEAK_M_LAST, message, tally)
 }
 
-// Auth enciphered. Here and below an array goes from one struct into another by a local of its own: the checker covers no other way.
+// Auth enciphered. Here and below an array goes from one struct into another by a local of its own: from field to field the checker covers not.
 fn tag(k: Subkeys, nonce: &[u8; 15], tally: Tally) -> Tagged
     requires { (k.rounds ≤ 16) × (tally.count.rows + 1 < 2 ^ 64) }
     ensures { result ≡ record {

@@ -11,7 +11,8 @@ pub const BUFFER: u8 = 51;
 fn at(i: usize, salt: u8) -> u8
     ensures { result ≡ pattern_at salt i }
 {
-    (i % 256) as u8 ^ (i / 256 % 256) as u8 ^ salt
+    let [low, high, ..] = i.to_le_bytes();
+    low ^ high ^ salt
 }
 
 pub fn fill(s: &mut [u8], salt: u8)

@@ -1,5 +1,7 @@
 // What a call gave, what of it differs from what was wanted, and the count of it all.
 ghost use Rattle.std.specs.Prelude.{◌≡◌};
+ghost use Rattle.std.specs.Prelude.{Some};
+ghost use Rattle.differences.specs.Words.{what_word};
 ghost use Rattle.differences.specs.Tally.{first_difference, none, with_case, with_difference, with_call, with_bad_line, with_a_case, together};
 
 use std::fmt;
@@ -27,6 +29,8 @@ pub enum What {
 }
 
 impl fmt::Display for What {
+    ghost output = { λ what. Some (what_word what) };
+
     fn fmt<W: fmt::Write>(&self, f: &mut fmt::Formatter<W>) -> fmt::Result {
         f.write_str(match self {
             What::Number => "number",

@@ -14,7 +14,8 @@ use deoxys_bc::Count;
 use suites::{LIMIT, Refused};
 use tweakey::Subkeys;
 
-// Numbers and stages are bytes that C hands over, and any of them has a meaning (docs/DECISIONS.md), so they are no enums.
+// A state's number and stage are bytes that C hands over, and any of them has a meaning (docs/DECISIONS.md), so they are no enums; nor is what
+// refuses a call, which is begin's number as it came, or 5 or 8.
 // The stages. Whatever is above FINISHED is finished too.
 const OPEN: u8 = 0;
 
@@ -29,7 +30,7 @@ const NO_MORE: u8 = 8;
 // The rows of so many bytes of data and of message as are allowed.
 const MOST_ROWS: usize = 131072;
 
-// What has been taken so far comes to: begin's number, the stage, the expanded key, the nonce, Auth, the checksum, the bytes taken and the
+// What has been taken so far comes to, here and in the answers below as C has it: begin's number, the stage, the expanded key, the nonce, Auth, the checksum, the bytes taken and the
 // block cipher calls made. It holds key material.
 #[repr(C)]
 #[derive(Clone, Copy, PartialEq, Eq)]
@@ -102,6 +103,7 @@ pub fn begin(suite: u8, key: &[u8], nonce: &[u8], ad: &[u8]) -> Pieces
     }
     let keys = tweakey::precompute_subkeys(key);
     let tally = modes::compute_ad_tag(keys, ad);
+    // A local of its own: from field to field the checker covers not.
     let auth = tally.sum;
     let mut own_nonce = [0u8; 8];
     own_nonce.copy_from_slice(nonce);

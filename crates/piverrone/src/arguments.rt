@@ -4,7 +4,8 @@ ghost use Rattle.piverrone.specs.Counts.{IsPrefixLen};
 use std::env::FillError;
 use std::rt::Env;
 
-// Copies argument i to the start of the space, and returns its length, or 0 where there is none or it does not fit.
+// Copies argument i to the start of the space, and returns its length, or 0 where there is none or it does not fit, since no word and no
+// number is empty.
 pub fn argument(rt: &impl Env, i: usize, space: &mut [u8]) -> usize
     ensures { IsPrefixLen result space.new }
 {

@@ -28,6 +28,7 @@ fn tell_record(
 // A line for each record, and their number.
 fn tell_records(rt: &(impl Print + Eprint), bytes: &[u8], records: usize) -> Option<()> {
     let mut at = 0;
+    // By number, here and below: it is printed, and where a record starts comes from the one before.
     for i in 0..records {
         let found = reader::read(bytes, at);
         tell_record(rt, bytes, i + 1, found, at)?;

@@ -57,8 +57,8 @@ fn read_some(file: &mut impl Read, part: &mut [u8]) -> io::Result<usize>
     file.read(part)
 }
 
-// Reads until the buffer is full or the file ends. A `while`: the library has no read that stops at a short file's end and tells the count.
-// `filled` of crates/replay is another program's: a crate for the two would hold this alone.
+// Reads until the buffer is full or the file ends. A `while`: std's `Read` has no method that stops at a short file's end and tells the count.
+// `filled` of `replay` is private to a library that this program does not use: a crate for the two would hold this alone.
 fn read_all(file: &mut impl Read, buffer: &mut [u8]) -> io::Result<usize>
     ensures count { ReadsAtMost result buffer.new }
     ensures kept_length { length buffer.new ≡ length buffer.old }

@@ -91,7 +91,7 @@ fn seal(
     words::done(rt, "sealed, rows: ", sealed.rows)
 }
 
-// OUT is the message.
+// OUT is the message. `seal` is as long: what the two have in common is in the functions that they call.
 fn open(
     rt: &(impl Env + Files + Print + Eprint),
     inputs: Inputs<'_>,
@@ -108,6 +108,7 @@ fn open(
 fn table(rt: &(impl Print + Eprint), direction: Direction, shape: Shape) -> Option<()> {
     words::heading(rt, direction)?;
     let n = shape.rows();
+    // By number: it is printed, and asked for.
     for i in 0..n {
         words::row(rt, i + 1, shape.row(direction, i).unwrap())?;
     }

@@ -9,7 +9,7 @@ pub fn number_named(rt: &impl Env, i: usize) -> Option<usize> {
     numerals::spelt(&space[..n])
 }
 
-// Argument i as a suite's number, or 0, which is no suite's.
+// Argument i as a number below 256, or 0: what is no suite's the library refuses.
 pub fn suite_named(rt: &impl Env, i: usize) -> u8 {
     number_named(rt, i)
         .and_then(|n| u8::try_from(n).ok())

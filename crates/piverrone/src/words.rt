@@ -181,7 +181,7 @@ fn parts(rt: &impl Print, count: usize, found: Record, text: &[u8], at: usize) -
     println!(rt; " ciphertext {length} at {at}")
 }
 
-// A record of a bundle, counted from one, with its note and its place.
+// A record of a bundle, counted from one, with its note and its place: no struct, for only `parts` would take it apart.
 pub fn sealed_row(
     rt: &(impl Print + Eprint),
     count: usize,

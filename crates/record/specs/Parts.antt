@@ -33,4 +33,5 @@ TextsRead nonce s r = MatchResult r (TextsGot nonce s) (λ e. take_fields (text_
 
 -- a record at a place
 abbrev pub RecordRead : ℕ → List ℕ → Result Record Refused → Type 0
-RecordRead at s r = MatchResult r (λ found. found ≡ answer_at at (take_record s)) (λ e. take_record s ≡ refused (number_of e))
+RecordRead at s r =
+    MatchResult r (λ found. (found ≡ answer_at at (take_record s)) × (found.number ≡ 0)) (λ e. take_record s ≡ refused (number_of e))

@@ -11,7 +11,7 @@ const TOO_MANY: u8 = 15;
 
 pub const MOST_RECORDS: usize = 64;
 
-// What the reader answers: a number, suite and row, where each text lies in the bytes given and how long it is (the tag has 16 bytes), and
+// What the reader answers, here and below as C has it: a number, suite and row, where each text lies in the bytes given and how long it is (the tag has 16 bytes), and
 // the record's own length. Refused, all but the number is zero.
 #[repr(C)]
 #[derive(Clone, Copy)]

@@ -15,7 +15,7 @@ const FIXED_BYTES: usize = 37;
 
 const ROW_BYTES: usize = 2;
 
-// What the writer answers: a number, and how many bytes it laid at the start of the destination.
+// What the writer answers, as C has it: a number, and how many bytes it laid at the start of the destination.
 #[repr(C)]
 #[derive(Clone, Copy)]
 pub struct Written {

@@ -17,6 +17,7 @@ const NONCE: usize = 40;
 
 const TAG: usize = 64;
 
+// The library's number of a wrong tag.
 const WRONG_TAG: u8 = 7;
 
 #[derive(Clone, Copy)]
@@ -38,6 +39,7 @@ fn number(line: &[u8], k: usize) -> Option<usize> {
     text::decimal(text::field(line, k))
 }
 
+// A line each here and in `cuttings`, as what takes so many bytes below: docs/DECISIONS.md, Replaying lists.
 fn byte(line: &[u8], k: usize) -> Option<u8> {
     u8::try_from(number(line, k)?).ok()
 }
@@ -100,6 +102,7 @@ fn taken(s: &[u8], from: usize, n: usize) -> &[u8] {
 
 impl Rooms<'_> {
     fn sealed(&mut self, a: Attempt, tag: [u8; 16]) -> Seen {
+        // Two parts of the rooms, each lent by itself, here and below.
         let data = self.data;
         let buffer = &mut *self.buffer;
         let answer = deoxys::seal(

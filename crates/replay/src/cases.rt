@@ -11,7 +11,7 @@ use std::rt::Files;
 // No list is as long.
 const ROOM: usize = 65536;
 
-// The lines of a list that are cases, counted from one.
+// The lines of a list that are cases, counted from one. Line, number and tally are no struct: each function that is handed them takes them apart.
 #[tactic(auto, using(differences::proofs::Differences::has_a_case))]
 fn lines<C: Copy, F: FnMut(&[u8], usize, Tally<C>) -> Tally<C>>(
     text: &[u8],

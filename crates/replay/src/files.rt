@@ -39,7 +39,8 @@ fn opened<R: Files + Eprint>(rt: &R, path: &[u8]) -> Option<R::File> {
     }
 }
 
-// The file's bytes at the start of `text`, and how many; none where it can't be opened or may be longer than `text`.
+// The file's bytes at the start of `text`, and how many; none where it can't be opened or may be longer than `text`, and no Option, for a list
+// without a case is told as one.
 pub fn read<R: Files + Eprint>(rt: &R, path: &[u8], text: &mut [u8]) -> io::Result<usize>
     ensures count { IfOk result (λ n. IsPrefixLen n text.new) }
     ensures kept_length { length text.new ≡ length text.old }

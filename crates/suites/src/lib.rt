@@ -34,7 +34,8 @@ impl Refused {
     }
 }
 
-// The length of a suite's key, and 0 for what is no suite. A suite stays a number: document 01 names "a suite number and plain functions".
+// The length of a suite's key, and 0 for what is no suite: the definition's, by which a record's reader takes the nonce of any suite's byte, so no
+// Option. A suite stays a number: document 01 names "a suite number and plain functions".
 pub fn key_length(suite: u8) -> usize
     ensures { result ≡ key_length suite }
 {
@@ -45,7 +46,7 @@ pub fn key_length(suite: u8) -> usize
     }
 }
 
-// The length of a suite's nonce, and 0 for what is no suite.
+// The length of a suite's nonce, and 0 for what is no suite, likewise.
 pub fn nonce_length(suite: u8) -> usize
     ensures { result ≡ nonce_length suite }
 {

@@ -33,6 +33,7 @@ pub fn nonce_tweak(kind: u8, nonce: &[u8; 8], i: usize) -> [u8; 16]
 {
     let mut out = numbered(0, i);
     let mut half = kind;
+    // By the index: after a `zip` with `iter_mut` a proof knows no byte of `out`.
     for (j, byte) in nonce.iter().enumerate() {
         out[j] = half * 16 + byte / 16;
         half = byte % 16;

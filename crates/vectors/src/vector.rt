@@ -18,6 +18,7 @@ const BEFORE: usize = 8;
 
 const ROOM: usize = 80;
 
+// The library's number of a wrong tag.
 const WRONG_TAG: u8 = 7;
 
 // The parts of a vector, in the order of a line.
@@ -109,7 +110,8 @@ fn chosen(n: usize, bits: usize) -> usize
     if n % 2 == 0 { step } else { bits - 1 - step }
 }
 
-// A vector: the suite, the parts one after the other, where each starts and the last ends, and the number of rows.
+// A vector: the suite, the parts one after the other in one array, since together they may not be longer, where each starts and the last ends, and
+// the number of rows.
 #[derive(Clone, Copy)]
 struct Vector {
     suite: u8,

@@ -8,6 +8,6 @@ use Rattle.lists.proofs.text.part.Goals as goal
 
 pub returns : goal.returns
 returns c =
-    let e = nth_from_yields_List c.nth.result _ c.args.k c.nth.ensures.ran
+    let e = nth_from_yields_List c.nth.result _ _ c.nth.ensures.ran
     (YieldsList-from_slice_split _ (λ x. eqb x c.args.separator) c.args.text.now c.split.ensures.rest c.split.ensures.done c.split.ensures.closure (λ x b q k. search rules)) in
     rw (c.unwrap_or.ensures, ← e) (part_or_none c.nth.result _ refl)

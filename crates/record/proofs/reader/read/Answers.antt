@@ -12,7 +12,7 @@ returns-then-bytes-at c = rw (c.no_record.ensures, c.number.ensures) (past_end _
 
 pub returns-in-Ok : goal.returns-in-Ok
 unfolding reading
-returns-in-Ok c = c.in-Ok.ensures ∙ rw (rest_is c.args.bytes.now c.args.at)
+returns-in-Ok c = c.in-Ok.ensures.0 ∙ rw (rest_is c.args.bytes.now c.args.at)
 
 pub returns-in-Err : goal.returns-in-Err
 unfolding reading

@@ -1,5 +1,6 @@
 -- `record::reader::read_left` meets its contract: the head's refusal, the texts' refusal, or the record and its places.
 -- Assumes nothing.
+use mathlib.Core.Path.{refl}
 use native.Mathlib.Omega.{arith}
 use Rattle.std.proofs.lemmas.Result.{err_from_is_err_and}
 use Rattle.record.proofs.RecordAt.{head_refused, texts_refused, record_read}
@@ -16,5 +17,8 @@ returns-in_err-texts c =
     rw (p.1, p.2) (texts_refused _ c.in_ok-read_head.ensures _ c.nonce_length-nonce_length.ensures _ c.in_err-texts.ensures)
 
 pub returns : goal.returns
-returns c = record_read _ c.in_ok-read_head.ensures _ c.nonce_length-nonce_length.ensures _ c.in_ok-texts.ensures c.args.at _ _ _ _ _ _ c.pair.ensures
-    (omega arith) (omega arith) (omega arith) (omega arith) (omega arith)
+returns c = (
+  record_read _ c.in_ok-read_head.ensures _ c.nonce_length-nonce_length.ensures _ c.in_ok-texts.ensures c.args.at _ _ _ _ _ _ c.pair.ensures
+      (omega arith) (omega arith) (omega arith) (omega arith) (omega arith),
+  refl,
+)
