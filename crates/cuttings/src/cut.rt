@@ -43,7 +43,7 @@ fn part(s: &[u8], from: usize, to: usize) -> &[u8]
     }
 }
 
-// A room with a text, and guards around it.
+// A room with a text, and guards around it: three lines here and in `vectors`, whose rooms and places are others.
 fn laid_out(text: &[u8]) -> [u8; ROOM]
     requires { length text.now ≤ LONGEST }
 {

@@ -159,7 +159,7 @@ impl<C: Copy> Tally<C> {
         })
     }
 
-    // A list that has no case, or that could not be read, compares nothing.
+    // A list that has no case, or that could not be read, compares nothing. It is told at line 0, since lines count from one.
     #[tactic(auto, unfolding(crate::specs::Tally::with_a_case))]
     pub fn with_a_case(self) -> Tally<C>
         ensures { result ≡ with_a_case self }
