@@ -1,3 +1,4 @@
+pub mod Passed
 pub mod Heads
 pub mod TextFields
 pub mod Sizes

@@ -4,7 +4,7 @@ use mathlib.Core.Path.{◌≡◌, refl, sym, ap, ◌∙◌, subst}
 use mathlib.Core.List.{List, [], ◌∷◌, ◌++◌}
 use Prim.Native.Nat.{ℕ, ◌+◌, ◌-◌, ◌≤◌, ◌<◌}
 use native.Mathlib.Omega.{arith}
-use lib.ListN.{length, take, drop, get_or, length-drop, drop_of_length-le}
+use lib.ListN.{length, take, drop, get_or, drop_of_length-le}
 use Rattle.octets.proofs.Parts.{rest_is}
 use Rattle.suites.specs.Suites.{nonce_length}
 use Rattle.record.specs.declared.reader.Record.{Record}

@@ -2,7 +2,7 @@
 -- what it had at first.
 -- Assumes nothing.
 use mathlib.Core.Path.{◌≡◌}
-use Prim.Native.Nat.{suc, ◌-◌, ◌≤◌}
+use Prim.Native.Nat.{◌≤◌}
 use native.Mathlib.Omega.{arith}
 use lib.ListN.{length}
 use borrow.Author.Rules.{rules}
@@ -10,16 +10,6 @@ use Rattle.octets.specs.Octets.{Block}
 use Rattle.octets.proofs.Tables.{byte}
 use Rattle.deoxys_bc.proofs.Rounds.{KeyParts, flat-decipher}
 use Rattle.deoxys_bc.proofs.decipher.Goals as goal
-
-pub equiv_inv_cipher_round-next-requires : goal.equiv_inv_cipher_round-next-requires
-equiv_inv_cipher_round-next-requires c = c.entries-inv_sbox.ensures
-
-pub loop-i-preserved : goal.loop-i-preserved
-loop-i-preserved c =
-    let l = c.loop-i in
-    let e : l.i ≡ suc (l.i - 1) = omega arith in
-    simp (c.equiv_inv_cipher_round-next.ensures, c.inv_mix_columns-mixed.ensures, c.read_block-key.ensures)
-    (rw e at l.invariant)
 
 pub returns : goal.returns
 returns c =

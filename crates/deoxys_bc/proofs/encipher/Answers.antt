@@ -1,8 +1,7 @@
 -- `deoxys_bc::encipher` meets its contract: after i turns the state is i rounds over the flat round keys, and these are the round keys.
 -- Assumes nothing.
-use mathlib.Core.Path.{◌≡◌, refl, ◌∙◌}
+use mathlib.Core.Path.{◌≡◌}
 use Prim.Native.Nat.{◌≤◌}
-use native.Mathlib.Numerals.{add-one}
 use native.Mathlib.Omega.{arith}
 use lib.ListN.{length}
 use borrow.Author.Rules.{rules}
@@ -10,15 +9,6 @@ use Rattle.octets.specs.Octets.{Block}
 use Rattle.octets.proofs.Tables.{byte}
 use Rattle.deoxys_bc.proofs.Rounds.{KeyParts, flat-encipher}
 use Rattle.deoxys_bc.proofs.encipher.Goals as goal
-
-pub loop-i-init : goal.loop-i-init
-loop-i-init c = refl
-
-pub cipher_round-next-requires : goal.cipher_round-next-requires
-cipher_round-next-requires c = c.entries-sbox.ensures
-
-pub loop-i-preserved : goal.loop-i-preserved
-loop-i-preserved c = c.cipher_round-next.ensures ∙ rw (c.loop-i.invariant, c.read_block-key.ensures, add-one)
 
 pub returns : goal.returns
 returns c =

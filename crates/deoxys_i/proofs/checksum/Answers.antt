@@ -2,12 +2,8 @@
 -- Assumes nothing.
 use Rattle.std.proofs.Common.{arith, ◌≡◌, ◌<◌, length}
 use Rattle.std.proofs.lemmas.Grind.{common_steps}
-use Rattle.std.proofs.lemmas.List.Sums.{fold_more}
 use Rattle.deoxys_i.proofs.Checksums.{blocks_summed, sum_part, sum_none}
 use Rattle.deoxys_i.proofs.checksum.Goals as goal
-
-pub loop-block-preserved : goal.loop-block-preserved
-loop-block-preserved c = grind (arith, common_steps, fold_more)
 
 pub returns-then-not-is_empty : goal.returns-then-not-is_empty
 returns-then-not-is_empty c =

@@ -1,15 +1,12 @@
 -- `deoxys_i::crypt_message` meets its contract: what is still to do of the buffer, from where the loop stands, gives
 -- what there was to do at first.
 -- Assumes nothing.
-use Rattle.std.proofs.Common.{rules, arith, ◌∙◌, refl}
+use Rattle.std.proofs.Common.{rules, arith, ◌∙◌}
 use Rattle.octets.specs.Octets.{zero_block}
 use Rattle.octets.proofs.Parts.{rest_is, rest_put}
 use Rattle.modes.proofs.Counts.{counted}
-use Rattle.deoxys_i.proofs.Message.{crypt_start, crypt_turn, crypt_part, crypt_none}
+use Rattle.deoxys_i.proofs.Message.{crypt_turn, crypt_part, crypt_none}
 use Rattle.deoxys_i.proofs.crypt_message.Goals as goal
-
-pub loop-i-init : goal.loop-i-init
-loop-i-init c = record { left = crypt_start _ _ _ _ _ _ _; size = refl; counted = omega arith }
 
 pub loop-i-preserved : goal.loop-i-preserved
 loop-i-preserved c =

@@ -1,7 +1,7 @@
 -- `deoxys_ii::encrypt_decrypt_message` meets its contract: what is still to do of the buffer, from where the loop stands,
 -- gives what there was to do at first.
 -- Assumes nothing.
-use mathlib.Core.Path.{◌≡◌, refl, ap, ◌∙◌}
+use mathlib.Core.Path.{◌≡◌, ap, ◌∙◌}
 use mathlib.Core.List.{List}
 use Prim.Native.Nat.{ℕ, ◌/◌}
 use native.Mathlib.Omega.{arith}
@@ -11,14 +11,11 @@ use Rattle.octets.specs.Octets.{◌⊕◌}
 use Rattle.octets.proofs.Parts.{rest_is, rest_put}
 use Rattle.deoxys_bc.specs.declared.Called.{Called}
 use Rattle.modes.proofs.Counts.{counted}
-use Rattle.deoxys_ii.proofs.Keystream.{stream_start, stream_turn, stream_part, stream_none}
+use Rattle.deoxys_ii.proofs.Keystream.{stream_turn, stream_part, stream_none}
 use Rattle.deoxys_ii.proofs.encrypt_decrypt_message.Goals as goal
 
 xored : (s : List ℕ) {part b b' : List ℕ} → part ≡ s ⊕ b → b ≡ b' → part ≡ s ⊕ b'
 xored s p e = p ∙ ap (λ (x : List ℕ). s ⊕ x) e
-
-pub loop-j-init : goal.loop-j-init
-loop-j-init c = record { left = stream_start _ _ _ _ _ _; size = refl; counted = omega arith }
 
 pub loop-j-preserved : goal.loop-j-preserved
 loop-j-preserved c =

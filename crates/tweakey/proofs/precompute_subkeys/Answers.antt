@@ -3,7 +3,6 @@
 use mathlib.Core.Logic.{◌⊎◌, ⊎_elim}
 use mathlib.Core.Path.{◌≡◌, ◌∙◌}
 use Prim.Native.Nat.{ℕ}
-use native.Mathlib.Omega.{arith}
 use lib.Seq.{take_all}
 use borrow.Author.Rules.{rules}
 use Rattle.octets.specs.Octets.{Block}
@@ -20,14 +19,6 @@ returns-then-key-eq16 c =
     let key : Block c.args.key.now =
     record { size = c.if-key-eq16.true; bytes = record { at = λ i. byte (search rules) } } in
     c.expand.ensures ∙ rw (c.read_block.ensures, whole) (expanded_16 key)
-
-pub read_block-requires-2 : goal.read_block-requires-2
-read_block-requires-2 c =
-    let e = long c.requires c.if-key-eq16.false in omega arith
-
-pub read_block-requires-3 : goal.read_block-requires-3
-read_block-requires-3 c =
-    let e = long c.requires c.if-key-eq16.false in omega arith
 
 pub returns : goal.returns
 returns c =

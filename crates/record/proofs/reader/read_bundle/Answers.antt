@@ -27,11 +27,6 @@ overflow_add-at c =
     let h = f.within in
     search (h, rules)
 
-pub loop-at-smaller : goal.loop-at-smaller
-loop-at-smaller c =
-    let l = c.loop-at in
-    omega (arith, l.invariant.2, c.if-records-eq-MOST_RECORDS.false)
-
 pub loop-at-preserved : goal.loop-at-preserved
 loop-at-preserved c =
     let l = c.loop-at in

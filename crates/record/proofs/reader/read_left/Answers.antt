@@ -2,19 +2,17 @@
 -- Assumes nothing.
 use mathlib.Core.Path.{refl}
 use native.Mathlib.Omega.{arith}
-use Rattle.std.proofs.lemmas.Result.{err_from_is_err_and}
+use Rattle.record.proofs.Passed.{is_err}
 use Rattle.record.proofs.RecordAt.{head_refused, texts_refused, record_read}
 use Rattle.record.proofs.reader.read_left.Goals as goal
 
 pub returns-in_err-read_head : goal.returns-in_err-read_head
 returns-in_err-read_head c =
-    let p = err_from_is_err_and c.from_residual.result c.from_residual.ensures.1 in
-    rw (p.1, p.2) (head_refused _ _ c.in_err-read_head.ensures)
+    rw (is_err c.from_residual.result c.from_residual.ensures.1) (head_refused _ _ c.in_err-read_head.ensures)
 
 pub returns-in_err-texts : goal.returns-in_err-texts
 returns-in_err-texts c =
-    let p = err_from_is_err_and c.from_residual-in_err-texts.result c.from_residual-in_err-texts.ensures.1 in
-    rw (p.1, p.2) (texts_refused _ c.in_ok-read_head.ensures _ c.nonce_length-nonce_length.ensures _ c.in_err-texts.ensures)
+    rw (is_err c.from_residual-in_err-texts.result c.from_residual-in_err-texts.ensures.1) (texts_refused _ c.in_ok-read_head.ensures _ c.nonce_length-nonce_length.ensures _ c.in_err-texts.ensures)
 
 pub returns : goal.returns
 returns c = (

@@ -3,16 +3,15 @@
 use mathlib.Core.Path.{refl}
 use native.Mathlib.Nat.{suc-ne-zero}
 use borrow.Author.Rules.{rules}
-use Rattle.std.proofs.lemmas.Result.{err_from_is_err_and}
+use Rattle.record.proofs.Passed.{is_err}
 use Rattle.fields.proofs.Numbers.{range_number}
 use Rattle.record.proofs.Writings.{suite_number, row_then}
 use Rattle.record.proofs.writer.head_refusal.Goals as goal
 
 pub returns-in_err-range_refusal : goal.returns-in_err-range_refusal
 returns-in_err-range_refusal c =
-    let p = err_from_is_err_and c.from_residual.result c.from_residual.ensures.1 in
     let b = rw c.from.ensures at c.in_err-range_refusal.ensures.1 in
-    rw (p.1, p.2, c.in_err-range_refusal.ensures.0) (suite_number c.args.suite c.args.row (search rules) 13 (rw b refl) (suc-ne-zero 12))
+    rw (is_err c.from_residual.result c.from_residual.ensures.1, c.in_err-range_refusal.ensures.0) (suite_number c.args.suite c.args.row (search rules) 13 (rw b refl) (suc-ne-zero 12))
 
 pub returns : goal.returns
 returns c =
