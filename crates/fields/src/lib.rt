@@ -81,6 +81,17 @@ pub fn read_field(left: &[u8], tag: u8, least: usize, greatest: usize) -> Result
     Ok(bytes)
 }
 
+// A part of the body's length becomes the body. By a loop: where the length is no constant `copy_from_slice` calls C's `memmove`, and the
+// archive asks C for `memcpy` and `memset` alone.
+fn overwrite(part: &mut [u8], body: &[u8])
+    requires { length part.old ≡ length body.now }
+    ensures { part.new ≡ body.now }
+{
+    for (i, byte) in part.iter_mut().enumerate() {
+        *byte = body[i];
+    }
+}
+
 // Bytes laid at a place; where the next ones go.
 pub fn put(destination: &mut [u8], at: usize, body: &[u8]) -> usize
     requires { at + length body.now ≤ length destination.old }
@@ -88,7 +99,7 @@ pub fn put(destination: &mut [u8], at: usize, body: &[u8]) -> usize
     ensures destination_after { destination.new ≡ laid_at at body.now destination.old }
 {
     let next = at + body.len();
-    destination[at..next].copy_from_slice(body);
+    overwrite(&mut destination[at..next], body);
     next
 }
 

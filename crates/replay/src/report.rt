@@ -5,13 +5,18 @@ use differences::tally::{Difference, Tally};
 use std::fmt::Display;
 use std::io;
 
+// How many differ, and the first. A tally of two lists may differ and have no first: it keeps that of the one alone.
 fn write_differences<C: Copy + Display>(
     rt: &impl Print,
     differ: usize,
     first: Option<Difference<C>>,
 ) -> io::Result<()> {
+    if differ == 0 {
+        return Ok(());
+    }
+    print!(rt; ", {differ} differ")?;
     match first {
-        Some(first) => print!(rt; ", {differ} differ, first at {first}"),
+        Some(first) => print!(rt; ", first at {first}"),
         None => Ok(()),
     }
 }
