@@ -56,7 +56,9 @@ pub fn bundle(line: &[u8], bytes: &[u8], _place: usize) -> Option<What> {
     answers::differ(line, FIRST, &[usize::from(b.number), b.records], true)
 }
 
-// Every length from the least to that of all bytes, each a call; none where the line is no case.
+// Every length from the least to that of all bytes, each a call; none where the line is no case. Out of line: else the rooms of both readings
+// stand in one frame.
+#[inline(never)]
 pub fn replayed<F: Fn(&[u8], &[u8], usize) -> Option<What>>(
     text: &[u8],
     line: usize,
