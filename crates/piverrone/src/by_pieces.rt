@@ -15,6 +15,13 @@ const PIECE_BYTES: usize = 4096;
 // So many pieces are a message at the limit. The one after them is empty, or refused as too long.
 const MOST_PIECES: usize = 256;
 
+// A piece that OUT has: the state after it, and whether IN ended with it. A flag, for `last_if_short` says of just this piece which it is.
+#[derive(Clone, Copy)]
+struct Passed {
+    state: Pieces,
+    last: bool,
+}
+
 // Writes what a call left that answered with this number. None where it refused or that fails, which is told.
 fn written<F: Write>(rt: &impl Eprint, out: &mut Out<'_, F>, number: u8, left: &[u8]) -> Option<()>
     ensures { IfSome result (λ _. number ≡ 0) }
@@ -23,27 +30,25 @@ fn written<F: Write>(rt: &impl Eprint, out: &mut Out<'_, F>, number: u8, left: &
     files::write_to(rt, out, left)
 }
 
-// Enciphers a piece and then writes it; the state after it. None where either fails, which is told.
+// Enciphers a piece and then writes it. None where either fails, which is told.
 fn pass_on<F: Write>(
     rt: &impl Eprint,
     out: &mut Out<'_, F>,
     state: Pieces,
     piece: &mut [u8],
-) -> Option<Pieces>
+) -> Option<Passed>
     ensures piece_after { piece.new ≡ (taking state piece.old).piece }
-    ensures state_after { IfSome result (λ after. after ≡ (taking state piece.old).answer.pieces) }
+    ensures state_after { IfSome result (λ passed. passed.state ≡ (taking state piece.old).answer.pieces) }
     ensures only_if_taken { IfSome result (λ _. (taking state piece.old).answer.number ≡ 0) }
+    ensures last_if_short { IfSome result (λ passed. passed.last ≡ ltb (length piece.old) 4096) }
 {
+    let last = piece.len() < PIECE_BYTES;
     let taken = state.take(piece);
     written(rt, out, taken.number, piece)?;
-    Some(taken.pieces)
-}
-
-// Whether IN ended with this piece: every other one fills the space.
-fn is_last(piece: &[u8]) -> bool
-    ensures last_if_short { result ≡ ltb (length piece.now) 4096 }
-{
-    piece.len() < PIECE_BYTES
+    Some(Passed {
+        state: taken.pieces,
+        last,
+    })
 }
 
 // Passes IN on, piece by piece, and gives the state after the last one, which is shorter.
@@ -57,10 +62,11 @@ fn pass_all<F: Read, G: Write>(
     for _ in 0..=MOST_PIECES {
         let mut space = [0u8; PIECE_BYTES];
         let n = files::read_from(rt, file, &mut space)?;
-        state = pass_on(rt, out, state, &mut space[..n])?;
-        if is_last(&space[..n]) {
-            return Some(state);
+        let passed = pass_on(rt, out, state, &mut space[..n])?;
+        if passed.last {
+            return Some(passed.state);
         }
+        state = passed.state;
     }
     None
 }
