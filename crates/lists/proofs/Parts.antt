@@ -26,6 +26,15 @@ joined f b i (suc n) = f i ++ (b ∷ joined f b (suc i) n)
 abbrev nth : List (List ℕ) → ℕ → List ℕ
 nth parts i = unwrap_or (slice_get parts i) []
 
+-- a byte put before the parts is put before the first, and the others stay
+onto_first_gains : (x : ℕ) (parts : List (List ℕ)) → nth (onto_first x parts) 0 ≡ x ∷ nth parts 0
+onto_first_gains x [] = refl
+onto_first_gains x (part ∷ parts) = refl
+
+onto_first_only : (x k : ℕ) (parts : List (List ℕ)) → nth (onto_first x parts) (suc k) ≡ nth parts (suc k)
+onto_first_only x k [] = refl
+onto_first_only x k (part ∷ parts) = refl
+
 -- the first part ends where the separator first stands
 pub first_part : (b : ℕ) (s : List ℕ) → part_of b 0 s ≡ take (index_of b s) s
 first_part b [] = refl
@@ -34,12 +43,7 @@ first_part b (x ∷ s) = by_first (eqb x b) (parts_of b s) (index_of b s) (first
     by_first : (t : Bool) (parts : List (List ℕ)) (n : ℕ) → nth parts 0 ≡ take n s
         → nth (cond t ([] ∷ parts) (onto_first x parts)) 0 ≡ take (cond (not t) (1 + n) 0) (x ∷ s)
     by_first true parts n e = refl
-    by_first false [] n e = let m : 1 + n ≡ suc n = omega arith in rw m (ap (λ (l : List ℕ). x ∷ l) e)
-    by_first false (part ∷ parts) n e = let m : 1 + n ≡ suc n = omega arith in rw m (ap (λ (l : List ℕ). x ∷ l) e)
-
-onto_first_only : (x k : ℕ) (parts : List (List ℕ)) → nth (onto_first x parts) (suc k) ≡ nth parts (suc k)
-onto_first_only x k [] = refl
-onto_first_only x k (part ∷ parts) = refl
+    by_first false parts n e = let m : 1 + n ≡ suc n = omega arith in rw m (onto_first_gains x parts ∙ ap (λ (l : List ℕ). x ∷ l) e)
 
 -- the parts from the second on are those of what follows the first separator
 pub next_part : (b k : ℕ) (s : List ℕ) → part_of b (suc k) s ≡ part_of b k (drop (suc (index_of b s)) s)

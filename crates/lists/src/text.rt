@@ -49,7 +49,7 @@ fn part(text: &[u8], separator: u8, k: usize) -> &[u8]
     ensures { result.now ≡ part_of separator k text.now }
 {
     let mut from = 0;
-    // By `find`: `split(..).nth(k)` takes up to 2.6 times as long.
+    // A turn for each part before: `split(..).nth(k)` takes up to 2.6 times as long.
     for _ in 0..k {
         from = next(text, separator, from);
     }
@@ -76,7 +76,7 @@ fn count(text: &[u8], byte: u8) -> usize
     ensures upper_bound { result ≤ length text.now }
 {
     let mut n = 0;
-    // A loop: `filter(..).count()` takes seven instructions a byte where this takes five.
+    // A loop: the compiler makes of it one over four bytes at once, and not of `filter(..).count()`.
     for b in text {
         if *b == byte {
             n += 1;

@@ -15,7 +15,7 @@ const PIECE_BYTES: usize = 4096;
 // So many pieces are a message at the limit. The one after them is empty, or refused as too long.
 const MOST_PIECES: usize = 256;
 
-// A piece that OUT has: the state after it, and whether IN ended with it. A flag, for `last_if_short` says of just this piece which it is.
+// A piece that OUT has: the state after it, and whether it counts as IN's last, which `last_if_short` says of it.
 #[derive(Clone, Copy)]
 struct Passed {
     state: Pieces,

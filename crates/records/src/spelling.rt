@@ -29,7 +29,7 @@ fn run(n: usize, room: &mut [u8], at: usize) -> Option<usize> {
 // All bytes so far, again and again to the end of so many.
 fn repeated(to: usize, room: &mut [u8], at: usize) -> Option<usize> {
     let text = room.get_mut(..to)?;
-    // By the index: `zip` with a `cycle` of the bytes so far takes three times as long, `chunks_mut` of their length two to four times.
+    // By the index: `zip` with a `cycle` of the bytes so far takes two to three times as long, `chunks_mut` of their length two to four times.
     for i in at..to {
         text[i] = text[i - at];
     }
